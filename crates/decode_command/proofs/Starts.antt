@@ -3,10 +3,10 @@ use Rattle.std.proofs.Common.{◌≡◌, ◌<◌, true, false, [], length, refl,
 use Rattle.mav_profile.specs.Messages.{extras_of}
 use Rattle.mav_stream.specs.Held.{nothing_held}
 use Rattle.mav_stream.proofs.Steps.{begun}
-use Rattle.decode_command.specs.declared.known.Known.{Known}
+use Rattle.decode_command.specs.declared.context.DecodeContext.{DecodeContext}
 use Rattle.decode_command.specs.Decodes.{Decoding, HasDecoded, decoding_load}
 
-module _ (known : Known) where
+module _ (known : DecodeContext) where
   abbrev pub decode_start : Decoding
   decode_start = record { known = known; reader = nothing_held (extras_of known.dialect) true; offset = 0; frames = 0; skipped = 0 }
 

@@ -6,7 +6,7 @@ use Rattle.run_status.specs.declared.input_errors.Bound.TheVariants.{InputBytes}
 use Rattle.run_status.specs.declared.input_errors.InputError.{InputError}
 use Rattle.run_status.specs.declared.input_errors.InputError.TheVariants.{AtLimit}
 use Rattle.run_status.specs.Runs.{Steady}
-use Rattle.decode_command.specs.declared.known.Known.{Known}
+use Rattle.decode_command.specs.declared.context.DecodeContext.{DecodeContext}
 use Rattle.decode_command.specs.Spec.{decode_telling, decode_spec}
 use Rattle.decode_command.specs.Tellings.{Telling, most_input_bytes, telling_spec}
 
@@ -30,5 +30,5 @@ module _ (t : Telling) where
     stays = λ ended taken more stop e. stays_at ended taken more stop (ltb most_input_bytes (length taken)) refl e;
   }
 
-pub decode_steady : (known : Known) → Steady (decode_spec known)
+pub decode_steady : (known : DecodeContext) → Steady (decode_spec known)
 decode_steady known = telling_steady (decode_telling known)

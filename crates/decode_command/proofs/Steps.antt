@@ -11,7 +11,7 @@ use Rattle.mav_stream.specs.Spans.{first_packet, skipped_for, IsNextSpan}
 use Rattle.mav_stream.specs.declared.spans.NextSpan.{NextSpan}
 use Rattle.mav_stream.specs.declared.spans.NextSpan.TheVariants.{Frame, Skipped}
 use Rattle.mav_text.specs.FrameText.{skip_lines}
-use Rattle.decode_command.specs.declared.known.Known.{Known}
+use Rattle.decode_command.specs.declared.context.DecodeContext.{DecodeContext}
 use Rattle.decode_command.specs.Parsing.{parse_events}
 use Rattle.decode_command.specs.Parses.{final_is, incremental_is}
 use Rattle.decode_command.specs.DecodeText.{event_size, frames_of, skips_of, event_line, event_lines, lines_from, bytes_in, frames_in, skips_in, counts_line}
@@ -36,11 +36,11 @@ decoded_on old new events ended taken told more h gave known still offset frames
     record {
       given = h.given ++ events;
       is_ended = still ∙ h.is_ended;
-      progress = subst (λ (k : Known). Progress (extras_of k.dialect) true taken (h.given ++ events) new.reader) (sym known) (gave (extras_of old.known.dialect) true taken h.given h.progress);
+      progress = subst (λ (k : DecodeContext). Progress (extras_of k.dialect) true taken (h.given ++ events) new.reader) (sym known) (gave (extras_of old.known.dialect) true taken h.given h.progress);
       offset = omega (arith, offset, h.offset, sum_by-append event_size h.given events);
       frames = omega (arith, frames, h.frames, sum_by-append frames_of h.given events);
       skipped = omega (arith, skipped, h.skipped, sum_by-append skips_of h.given events);
-      lines = sym (ap (λ (k : Known). event_lines k (h.given ++ events)) known ∙ lines);
+      lines = sym (ap (λ (k : DecodeContext). event_lines k (h.given ++ events)) known ∙ lines);
     }
 
 -- what `decode` does with a span

@@ -10,7 +10,7 @@ use Rattle.mav_frame.specs.declared.events.Event.{Event}
 use Rattle.mav_frame.specs.declared.events.Event.TheVariants.{Frame, Skipped}
 use Rattle.mav_text.specs.FrameText.{frame_text, skip_line}
 use Rattle.mav_sign.specs.Signing.{signature_of}
-use Rattle.decode_command.specs.declared.known.Known.{Known}
+use Rattle.decode_command.specs.declared.context.DecodeContext.{DecodeContext}
 
 -- how many bytes an event takes, how many frames it is, and how many skipped bytes
 abbrev pub event_size : Event → ℕ
@@ -38,7 +38,7 @@ frame_line None key offset packet = []
 frame_line (Some def) key offset packet = decimal offset ++ 32 ∷ frame_text def packet ++ (verdict_text key packet packet.block ++ 10 ∷ [])
 
 -- the line of a frame, or of a skipped byte
-abbrev pub event_line : Known → ℕ → Event → List ℕ
+abbrev pub event_line : DecodeContext → ℕ → Event → List ℕ
 event_line known offset (Frame packet) = frame_line (definition_with packet.id known.dialect) known.key offset packet
 event_line known offset (Skipped byte why) = skip_line offset byte why
 
@@ -47,10 +47,10 @@ abbrev pub lines_at : {E : Type 0} → (line : ℕ → E → List ℕ) (size : E
 lines_at line size offset [] = []
 lines_at line size offset (event ∷ events) = line offset event ++ lines_at line size (offset + size event) events
 
-abbrev pub lines_from : Known → ℕ → List Event → List ℕ
+abbrev pub lines_from : DecodeContext → ℕ → List Event → List ℕ
 lines_from known offset events = lines_at (event_line known) event_size offset events
 
-abbrev pub event_lines : Known → List Event → List ℕ
+abbrev pub event_lines : DecodeContext → List Event → List ℕ
 event_lines known events = lines_from known 0 events
 
 -- sums over events
@@ -74,5 +74,5 @@ abbrev pub last_line : List Event → List ℕ
 last_line events = counts_line (frames_in events) (skips_in events)
 
 -- the whole text
-abbrev pub decode_text : Known → List Event → List ℕ
+abbrev pub decode_text : DecodeContext → List Event → List ℕ
 decode_text known events = event_lines known events ++ last_line events

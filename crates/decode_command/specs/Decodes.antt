@@ -1,6 +1,6 @@
 -- What `decode` has told of a stream.
 use Rattle.std.specs.Prelude.{ℕ, ◌≡◌, ◌+◌, ◌*◌, Bool, true, List, ◌++◌, length}
-use Rattle.decode_command.specs.declared.known.Known.{Known}
+use Rattle.decode_command.specs.declared.context.DecodeContext.{DecodeContext}
 use Rattle.mav_profile.specs.Messages.{extras_of}
 use Rattle.mav_frame.specs.declared.events.Event.{Event}
 use Rattle.mav_stream.specs.Held.{Held}
@@ -15,7 +15,7 @@ GaveEvents events old new = (extras : List (ℕ × ℕ)) (old_too : Bool) (taken
 -- the messages and the key that are known, what is held of the stream, the offset of the next event, and the counts so
 -- far
 pub record Decoding : Type 0 where
-  pub known : Known
+  pub known : DecodeContext
   pub reader : Held
   pub offset : ℕ
   pub frames : ℕ

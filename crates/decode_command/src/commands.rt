@@ -4,8 +4,8 @@ ghost use Rattle.std.specs.Result.{result_err};
 ghost use Rattle.run_status.specs.Seen.{before_status_over, input_of, output_of};
 ghost use Rattle.decode_command.specs.Spec.{decode_spec};
 
+use crate::context::DecodeContext;
 use crate::decoder::Decoder;
-use crate::known::Known;
 use crate::running::run_teller;
 use mav_ports::{Sink, Source};
 use run_status::RunEnd;
@@ -15,7 +15,7 @@ use std::alloc::Global;
 /// the run halted, if it did, isn't written.
 pub fn decode_by<S: Source, K: Sink>(
     alloc: Global,
-    known: Known,
+    known: DecodeContext,
     main: &mut S,
     out: &mut K,
 ) -> Result<(), RunEnd>

@@ -6,7 +6,7 @@ ghost use Rattle.command_line.specs.Lines.{given_of};
 ghost use Rattle.decode_command.specs.Decoding.{Decodes};
 ghost use Rattle.run_status.specs.Seen.{input_of, output_of, before_status_over};
 
-use crate::{Known, decode_by};
+use crate::{DecodeContext, decode_by};
 use command_inputs::{Inputs, named_key};
 use command_line::{Line, OptionName};
 use dialect_command::known_messages;
@@ -36,5 +36,5 @@ pub fn run_decode<S: Source, K: Sink>(
 {
     let key = named_key(line, &mut inputs.key)?;
     let dialect = known_messages(alloc, line, &mut inputs.defs)?;
-    decode_by(alloc, Known { dialect, key }, &mut inputs.main, out)
+    decode_by(alloc, DecodeContext { dialect, key }, &mut inputs.main, out)
 }

@@ -7,8 +7,8 @@ ghost use Rattle.mav_stream.specs.Spans.{first_packet, IsNextSpan};
 ghost use Rattle.mav_text.specs.FrameText.{skip_lines};
 ghost use Rattle.decode_command.specs.DecodeText.{event_line};
 
+use crate::context::DecodeContext;
 use crate::counts::put_counts;
-use crate::known::Known;
 use crate::prepared::Prepared;
 use crate::tellers::Teller;
 use dialect::Dialect;
@@ -51,7 +51,7 @@ pub fn scanner_of(alloc: Global, dialect: &Dialect) -> Result<Scanner, NoMemory>
 }
 
 impl Decoder {
-    pub(crate) fn new(alloc: Global, known: Known) -> Result<Decoder, NoMemory>
+    pub(crate) fn new(alloc: Global, known: DecodeContext) -> Result<Decoder, NoMemory>
         ensures { IfOk result (λ decoder. decoder ≡ record { known = known; reader = nothing_held (extras_of known.dialect) true; offset = 0; frames = 0; skipped = 0 }) }
     {
         let reader = scanner_of(alloc, &known.dialect)?;
@@ -59,7 +59,7 @@ impl Decoder {
     }
 
     // A decoder over a reader that has taken no byte.
-    fn over(alloc: Global, known: Known, reader: Scanner) -> Result<Decoder, NoMemory>
+    fn over(alloc: Global, known: DecodeContext, reader: Scanner) -> Result<Decoder, NoMemory>
         requires { reader ≡ nothing_held (extras_of known.dialect) true }
         ensures { IfOk result (λ decoder. decoder ≡ record { known = known; reader = nothing_held (extras_of known.dialect) true; offset = 0; frames = 0; skipped = 0 }) }
     {

@@ -9,19 +9,19 @@
 #![tactic(auto)]
 
 mod commands;
+mod context;
 mod counts;
 mod decode_asked;
 mod decoder;
-mod known;
 pub mod laws;
 mod prepared;
 mod running;
 mod tellers;
 
 pub use commands::decode_by;
+pub use context::DecodeContext;
 pub use counts::put_counts;
 pub use decode_asked::run_decode;
 pub use decoder::scanner_of;
-pub use known::Known;
 pub use running::run_teller;
 pub use tellers::Teller;

@@ -4,7 +4,7 @@ ghost use Rattle.mav_profile.specs.Messages.{definition_with};
 ghost use Rattle.mav_frame.specs.Looks.{id_at, is_old_at, frame_size_at, packet_at};
 ghost use Rattle.decode_command.specs.DecodeText.{frame_line, verdict_text};
 
-use crate::known::Known;
+use crate::context::DecodeContext;
 use mav_frame::RawFrame;
 use mav_ports::NoMemory;
 use mav_sign::{Key, verifies_raw};
@@ -20,9 +20,9 @@ pub(crate) struct Prepared {
 }
 
 impl Model for Prepared {
-    ghost use Rattle.decode_command.specs.declared.known.Known.{Known};
+    ghost use Rattle.decode_command.specs.declared.context.DecodeContext.{DecodeContext};
 
-    ghost Value = { Known };
+    ghost Value = { DecodeContext };
 
     ghost view = { λ p. record { dialect = p.templates; key = p.key } };
 }
@@ -47,7 +47,7 @@ fn ending(key: &Option<Key>, frame: &RawFrame<'_>) -> &'static [u8]
 }
 
 impl Prepared {
-    pub(crate) fn new(alloc: Global, known: Known) -> Result<Prepared, NoMemory>
+    pub(crate) fn new(alloc: Global, known: DecodeContext) -> Result<Prepared, NoMemory>
         ensures { IfOk result (λ prepared. prepared ≡ known) }
     {
         Ok(Prepared {

@@ -11,8 +11,8 @@ use Rattle.fleet_world.specs.Authentic.{Authentic}
 use Rattle.fleet_safety.proofs.Plays.{every_scenario}
 use Rattle.fleet_safety.proofs.ReportedLines.{every_line}
 use Rattle.fleet_liveness.proofs.Every as every
-use Rattle.fleet_commands.proofs.Once.{every_once}
-use Rattle.fleet_commands.proofs.Plays.{every_begins}
+use Rattle.fleet_command_laws.proofs.Once.{every_once}
+use Rattle.fleet_command_laws.proofs.Plays.{every_begins}
 use Rattle.fleet_command.specs.Spec.{fleet_spec}
 use Rattle.fleet_theorem.specs.Theorem.{MainTheorem, Carries}
 

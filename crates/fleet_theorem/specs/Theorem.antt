@@ -9,8 +9,8 @@ use Rattle.fleet_safety.specs.Actions.{actions_of}
 use Rattle.fleet_safety.specs.Safe.{nodes_of, Safe}
 use Rattle.fleet_safety.specs.Meaning.{LinesAreTrue}
 use Rattle.fleet_liveness.specs.Uncontended.{Lines, Upload, IsUncontended, IsInstalled}
-use Rattle.fleet_commands.specs.Once.{EachCommandOnce}
-use Rattle.fleet_commands.specs.Accepted.{EachLineBegins}
+use Rattle.fleet_command_laws.specs.Once.{EachCommandOnce}
+use Rattle.fleet_command_laws.specs.Accepted.{EachLineBegins}
 use Rattle.fleet_command.specs.Spec.{fleet_spec}
 
 -- what holds of a scenario's bytes under a key, whether their input ended after them or not, if its foreign bytes

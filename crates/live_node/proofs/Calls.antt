@@ -26,8 +26,8 @@ use Rattle.run_status.specs.declared.run_ends.RunEnd.TheVariants.{Usage, Stopped
 use Rattle.live_node.specs.declared.nodes.LiveNode.{LiveNode}
 use Rattle.live_node.specs.declared.nodes.Due.{Due}
 use Rattle.live_node.specs.declared.nodes.Due.TheVariants.{Tick, Heartbeat, Sim}
-use Rattle.live_node.specs.declared.tellers.Ending.{Ending}
-use Rattle.live_node.specs.declared.tellers.Teller.{Teller}
+use Rattle.live_node.specs.declared.run_log.Ending.{Ending}
+use Rattle.live_node.specs.declared.run_log.RunLog.{RunLog}
 use Rattle.live_node.specs.Nodes.{IsLive, IsKeptBy}
 use Rattle.live_node.specs.Calls.{LiveCall, call_does, calls_do, keeps_in, IsTime, ticks_with, ticks_over}
 use Rattle.live_node.specs.Texts.{frames_text, lines_of, count_over, ending_over}
@@ -143,8 +143,8 @@ stored_at_fault NoNodeMemory contents node = tt
 
 -- ---- one call
 
--- what is known of a call that returned news: its teller wrote them, or stopped so
-pub record Called {S : Type 0} (stores : Stores S) (before old now : S) (start : Node) (made : List LiveCall) (call : LiveCall) (was live : LiveNode) (t u : Teller) (first : Outside) (l m : LinkState) (x y : Option (List ℕ)) (z w : Option ℕ) (news : List News) (values : List Param) (end : Option RunEnd) : Type 0 where
+-- what is known of a call that returned news: its run_log wrote them, or stopped so
+pub record Called {S : Type 0} (stores : Stores S) (before old now : S) (start : Node) (made : List LiveCall) (call : LiveCall) (was live : LiveNode) (t u : RunLog) (first : Outside) (l m : LinkState) (x y : Option (List ℕ)) (z w : Option ℕ) (news : List News) (values : List Param) (end : Option RunEnd) : Type 0 where
   pub output : Output stores before old start made was t first (outside l x z)
   pub stays : w ≡ z
   pub did : Did (call_does call output.node) (λ node. IsLive node live) [] news
@@ -155,7 +155,7 @@ pub record Called {S : Type 0} (stores : Stores S) (before old now : S) (start :
   pub said : (events : List NodeEvent) → events_of news ≡ map shown events → HaveValues values events → Said end events (counted call t) u l m x y
 
 -- the events of the call, and what was told of them
-record Heard {S : Type 0} (stores : Stores S) (now : S) (start : Node) (made : List LiveCall) (call : LiveCall) (live : LiveNode) (earlier : List NodeEvent) (t u : Teller) (l m : LinkState) (x y : Option (List ℕ)) (end : Option RunEnd) : Type 0 where
+record Heard {S : Type 0} (stores : Stores S) (now : S) (start : Node) (made : List LiveCall) (call : LiveCall) (live : LiveNode) (earlier : List NodeEvent) (t u : RunLog) (l m : LinkState) (x y : Option (List ℕ)) (end : Option RunEnd) : Type 0 where
   node : Node
   events : List NodeEvent
   run : calls_do (made ++ call ∷ []) start ≡ done node (earlier ++ events)
@@ -165,7 +165,7 @@ record Heard {S : Type 0} (stores : Stores S) (now : S) (start : Node) (made : L
 known_in : (outcome : Outcome Node) (node : Node) (events : List NodeEvent) → outcome ≡ done node events → ListsKnown outcome → HaveValues (params_of (Some node)) events
 known_in outcome node events e h = subst ListsKnown e h
 
-heard : {S : Type 0} {stores : Stores S} {before old now : S} {start : Node} {made : List LiveCall} {call : LiveCall} {was live : LiveNode} {t u : Teller} {first : Outside} {l m : LinkState} {x y : Option (List ℕ)} {z w : Option ℕ} {news : List News} {values : List Param} {end : Option RunEnd} (c : Called stores before old now start made call was live t u first l m x y z w news values end) → Heard stores now start made call live c.output.events t u l m x y end
+heard : {S : Type 0} {stores : Stores S} {before old now : S} {start : Node} {made : List LiveCall} {call : LiveCall} {was live : LiveNode} {t u : RunLog} {first : Outside} {l m : LinkState} {x y : Option (List ℕ)} {z w : Option ℕ} {news : List News} {values : List Param} {end : Option RunEnd} (c : Called stores before old now start made call was live t u first l m x y z w news values end) → Heard stores now start made call live c.output.events t u l m x y end
 heard {S} {stores} {before} {old} {now} {start} {made} {call} {was} {live} {t} {u} {first} {l} {m} {x} {y} {z} {w} {news} {values} {end} c =
     let o = c.output in
     let d = did_does (call_does call o.node) live news c.did in
@@ -178,11 +178,11 @@ heard {S} {stores} {before} {old} {now} {start} {made} {call} {was} {live} {t} {
       told = c.said d.events d.said have;
     }
 
-lines_told : (t : Teller) (name : Name) (events more : List NodeEvent) → t.name ≡ name → t.sent ≡ count_over 0 events → lines_of t.name t.sent more ≡ lines_of name (count_over 0 events) more
+lines_told : (t : RunLog) (name : Name) (events more : List NodeEvent) → t.name ≡ name → t.sent ≡ count_over 0 events → lines_of t.name t.sent more ≡ lines_of name (count_over 0 events) more
 lines_told t name events more e f = ap (λ (n : Name). lines_of n t.sent more) e ∙ ap (λ (k : ℕ). lines_of name k more) f
 
 -- a call was made, and all that it told was written
-pub call_told : {S : Type 0} {stores : Stores S} {before old now : S} {start : Node} {made : List LiveCall} {call : LiveCall} {was live : LiveNode} {t u : Teller} {first : Outside} {l m : LinkState} {x y : Option (List ℕ)} {z w : Option ℕ} {news : List News} {values : List Param} {end : Option RunEnd} (c : Called stores before old now start made call was live t u first l m x y z w news values end) → end ≡ None → m.faults ≡ l.faults → Output stores before now start (made ++ call ∷ []) live u first (outside m y w)
+pub call_told : {S : Type 0} {stores : Stores S} {before old now : S} {start : Node} {made : List LiveCall} {call : LiveCall} {was live : LiveNode} {t u : RunLog} {first : Outside} {l m : LinkState} {x y : Option (List ℕ)} {z w : Option ℕ} {news : List News} {values : List Param} {end : Option RunEnd} (c : Called stores before old now start made call was live t u first l m x y z w news values end) → end ≡ None → m.faults ≡ l.faults → Output stores before now start (made ++ call ∷ []) live u first (outside m y w)
 call_told {S} {stores} {before} {old} {now} {start} {made} {call} {was} {live} {t} {u} {first} {l} {m} {x} {y} {z} {w} {news} {values} {end} c none faults =
     let o = c.output in
     let h = heard c in
@@ -195,10 +195,10 @@ call_told {S} {stores} {before} {old} {now} {start} {made} {call} {was} {live} {
       events = o.events ++ h.events;
       run = h.run;
       is = h.is;
-      name = ap (λ (v : Teller). v.name) told ∙ o.name;
-      count = ap (λ (v : Teller). v.sent) told ∙ (ap (λ (k : ℕ). count_over k h.events) o.count ∙ sym (count-append 0 o.events h.events));
-      ending = ap (λ (v : Teller). v.ending) told ∙ (ap (λ (e : Option Ending). ending_over e h.events) o.ending ∙ sym (ending-append None o.events h.events));
-      ticks = ap (λ (v : Teller). v.ticks) told ∙ (ap (λ (k : ℕ). ticks_with k call) o.ticks ∙ sym (ticks_more made call 0));
+      name = ap (λ (v : RunLog). v.name) told ∙ o.name;
+      count = ap (λ (v : RunLog). v.sent) told ∙ (ap (λ (k : ℕ). count_over k h.events) o.count ∙ sym (count-append 0 o.events h.events));
+      ending = ap (λ (v : RunLog). v.ending) told ∙ (ap (λ (e : Option Ending). ending_over e h.events) o.ending ∙ sym (ending-append None o.events h.events));
+      ticks = ap (λ (v : RunLog). v.ticks) told ∙ (ap (λ (k : ℕ). ticks_with k call) o.ticks ∙ sym (ticks_more made call 0));
       faults = faults ∙ o.faults;
       time = c.stays ∙ o.time;
       sent = whole_after first.link.sent l.sent m.sent (frames_text (map shown o.events)) (frames_text (map shown h.events)) o.sent sent ∙ ap (append_known first.link.sent) (sym (frames-append o.events h.events));
@@ -221,7 +221,7 @@ not_store end (inr (inl e)) h = cc
 not_store end (inr (inr e)) h = cc
 
 -- a call was made, and then the run stopped while its news were written; its store has what the node has stored
-written_left : {S : Type 0} {stores : Stores S} {before old now : S} {start : Node} {made : List LiveCall} {call : LiveCall} {was live : LiveNode} {t u : Teller} {first : Outside} {l m : LinkState} {x y : Option (List ℕ)} {z w : Option ℕ} {news : List News} {values : List Param} {end : Option RunEnd} (c : Called stores before old now start made call was live t u first l m x y z w news values end) → (end ≡ Some (Live StoreFault) → ⊥) → (v : Written stores before now end start (made ++ call ∷ []) first (outside m y w)) × StoreIs (stores.contents now) v.node
+written_left : {S : Type 0} {stores : Stores S} {before old now : S} {start : Node} {made : List LiveCall} {call : LiveCall} {was live : LiveNode} {t u : RunLog} {first : Outside} {l m : LinkState} {x y : Option (List ℕ)} {z w : Option ℕ} {news : List News} {values : List Param} {end : Option RunEnd} (c : Called stores before old now start made call was live t u first l m x y z w news values end) → (end ≡ Some (Live StoreFault) → ⊥) → (v : Written stores before now end start (made ++ call ∷ []) first (outside m y w)) × StoreIs (stores.contents now) v.node
 written_left {S} {stores} {before} {old} {now} {start} {made} {call} {was} {live} {t} {u} {first} {l} {m} {x} {y} {z} {w} {news} {values} {end} c other =
     let o = c.output in
     let h = heard c in
@@ -242,7 +242,7 @@ written_left {S} {stores} {before} {old} {now} {start} {made} {call} {was} {live
     )
 
 -- all was written, and then the run ended so
-abbrev pub written : {S : Type 0} (stores : Stores S) (before now : S) (end : Option RunEnd) (start : Node) (made : List LiveCall) (live : LiveNode) (t : Teller) (first last : Outside) → Output stores before now start made live t first last → (end ≡ Some (Live StoreFault) → ⊥) → Written stores before now end start made first last
+abbrev pub written : {S : Type 0} (stores : Stores S) (before now : S) (end : Option RunEnd) (start : Node) (made : List LiveCall) (live : LiveNode) (t : RunLog) (first last : Outside) → Output stores before now start made live t first last → (end ≡ Some (Live StoreFault) → ⊥) → Written stores before now end start made first last
 written {S} stores before now end start made live t first last o other = record {
   node = o.node;
   events = o.events;
@@ -255,7 +255,7 @@ written {S} stores before now end start made live t first last o other = record 
   store = λ e. absurd (other e);
 }
 
-pub call_stopped : {S : Type 0} {stores : Stores S} {before old now : S} {start : Node} {made : List LiveCall} {call : LiveCall} {was live : LiveNode} {t u : Teller} {first : Outside} {l m : LinkState} {x y : Option (List ℕ)} {z w : Option ℕ} {news : List News} {values : List Param} {end : Option RunEnd} (c : Called stores before old now start made call was live t u first l m x y z w news values end) → (why : RunEnd) → end ≡ Some why → IsTellingEnd why → CallsStopped stores before now why start made (call ∷ []) first (outside m y w)
+pub call_stopped : {S : Type 0} {stores : Stores S} {before old now : S} {start : Node} {made : List LiveCall} {call : LiveCall} {was live : LiveNode} {t u : RunLog} {first : Outside} {l m : LinkState} {x y : Option (List ℕ)} {z w : Option ℕ} {news : List News} {values : List Param} {end : Option RunEnd} (c : Called stores before old now start made call was live t u first l m x y z w news values end) → (why : RunEnd) → end ≡ Some why → IsTellingEnd why → CallsStopped stores before now why start made (call ∷ []) first (outside m y w)
 call_stopped {S} {stores} {before} {old} {now} {start} {made} {call} {was} {live} {t} {u} {first} {l} {m} {x} {y} {z} {w} {news} {values} {end} c why e telling =
     let both = subst (λ (how : Option RunEnd). (v : Written stores before now how start (made ++ call ∷ []) first (outside m y w)) × StoreIs (stores.contents now) v.node) e
     (written_left c (λ failed. not_store why telling (sym e ∙ failed))) in
@@ -269,7 +269,7 @@ call_stopped {S} {stores} {before} {old} {now} {start} {made} {call} {was} {live
     }
 
 -- a call's news were written, or the run stopped there
-pub told_by : {S A : Type 0} {stores : Stores S} {before old now : S} {start : Node} {made : List LiveCall} {was live : LiveNode} {t u : Teller} {first : Outside} {l m : LinkState} {x y : Option (List ℕ)} {z w : Option ℕ} {news : List News} {values : List Param} (call : LiveCall) (r : Result A RunEnd) (Told : A → Type 0) (Cut : RunEnd → Type 0) (p q : ℕ) → Called stores before old now start made call was live t u first l m x y z w news values (result_err r) → IfErr r IsTellingEnd → FaultsBy (result_err r) l.faults m.faults p q → ((a : A) → Output stores before now start (made ++ call ∷ []) live u first (outside m y w) → Told a) → ((end : RunEnd) → IsTellingEnd end → CallsStopped stores before now end start made (call ∷ []) first (outside m y w) → Cut end) → MatchResult r Told Cut
+pub told_by : {S A : Type 0} {stores : Stores S} {before old now : S} {start : Node} {made : List LiveCall} {was live : LiveNode} {t u : RunLog} {first : Outside} {l m : LinkState} {x y : Option (List ℕ)} {z w : Option ℕ} {news : List News} {values : List Param} (call : LiveCall) (r : Result A RunEnd) (Told : A → Type 0) (Cut : RunEnd → Type 0) (p q : ℕ) → Called stores before old now start made call was live t u first l m x y z w news values (result_err r) → IfErr r IsTellingEnd → FaultsBy (result_err r) l.faults m.faults p q → ((a : A) → Output stores before now start (made ++ call ∷ []) live u first (outside m y w) → Told a) → ((end : RunEnd) → IsTellingEnd end → CallsStopped stores before now end start made (call ∷ []) first (outside m y w) → Cut end) → MatchResult r Told Cut
 told_by call (Ok a) Told Cut p q c is faults told cut = told a (call_told c refl faults.0)
 told_by call (Err end) Told Cut p q c is faults told cut = cut end is (call_stopped c end refl is)
 
@@ -312,7 +312,7 @@ regroup stores before now end start xs ys first last e w = record {
 }
 
 -- a call wasn't made, since the node failed
-pub not_called : {S : Type 0} (stores : Stores S) (before old now : S) (start : Node) (made : List LiveCall) (call : LiveCall) (live : LiveNode) (t : Teller) (first last : Outside) (fault : NodeFault) → (o : Output stores before old start made live t first last) → Serves stores.faults stores.is_infallible old now → CallFails fault (call_does call o.node) (HasFailed stores.faults stores.is_infallible old now) → CallLeaves (stores.contents now) o.node (call ∷ []) → CallsStopped stores before now (end_by fault) start made (call ∷ []) first last
+pub not_called : {S : Type 0} (stores : Stores S) (before old now : S) (start : Node) (made : List LiveCall) (call : LiveCall) (live : LiveNode) (t : RunLog) (first last : Outside) (fault : NodeFault) → (o : Output stores before old start made live t first last) → Serves stores.faults stores.is_infallible old now → CallFails fault (call_does call o.node) (HasFailed stores.faults stores.is_infallible old now) → CallLeaves (stores.contents now) o.node (call ∷ []) → CallsStopped stores before now (end_by fault) start made (call ∷ []) first last
 not_called stores before old now start made call live t first last fault o serves fails left = record {
   more = [];
   rest = call ∷ [];
@@ -339,7 +339,7 @@ due_kept failed Heartbeat at = inl (All-nil (λ kept. kept ≡ true))
 due_kept failed Sim at = inl (All-nil (λ kept. kept ≡ true))
 
 -- a clock was asked
-abbrev pub output_later : {S : Type 0} {stores : Stores S} {before now : S} {start : Node} {made : List LiveCall} {live : LiveNode} {t : Teller} {first : Outside} {l : LinkState} {x : Option (List ℕ)} (z w : Option ℕ) → w ≡ z → Output stores before now start made live t first (outside l x z) → Output stores before now start made live t first (outside l x w)
+abbrev pub output_later : {S : Type 0} {stores : Stores S} {before now : S} {start : Node} {made : List LiveCall} {live : LiveNode} {t : RunLog} {first : Outside} {l : LinkState} {x : Option (List ℕ)} (z w : Option ℕ) → w ≡ z → Output stores before now start made live t first (outside l x z) → Output stores before now start made live t first (outside l x w)
 output_later z w e o = record {
   node = o.node;
   events = o.events;

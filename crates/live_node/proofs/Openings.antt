@@ -10,7 +10,7 @@ use Rattle.run_status.specs.declared.live_ends.LiveEnd.TheVariants.{RefusedWith,
 use Rattle.run_status.specs.declared.run_ends.RunEnd.{RunEnd}
 use Rattle.run_status.specs.declared.run_ends.RunEnd.TheVariants.{Usage, Stopped, ReadFault, WriteFault, NoMemory, TurnsSpent, Live}
 use Rattle.live_node.specs.declared.nodes.LiveNode.{LiveNode}
-use Rattle.live_node.specs.declared.tellers.Teller.{Teller}
+use Rattle.live_node.specs.declared.run_log.RunLog.{RunLog}
 use Rattle.live_node.specs.Calls.{LiveCall, Beats, IsTime}
 use Rattle.live_node.specs.Turns.{Turn}
 use Rattle.live_node.specs.Ports.{FaultsBy, SameRead, IsRunEnd}
@@ -104,7 +104,7 @@ stopped_later stores before now end most start beat turns first last is within r
 }
 
 -- one of which no call is left
-pub drone_over : {S : Type 0} (stores : Stores S) (before now : S) (most : ℕ) (start : DroneSide) (end : Option RunEnd) (beat : ℕ) (turns : List Turn) (live : LiveNode) (t : Teller) (first last : Outside) → (end ≡ Some (Stopped StampsSpent) → ⊥) → (end ≡ Some (Live StoreFault) → ⊥) → IsWhole end [] → DroneEnds most end turns last → Between stores before now (Drone start) (Beats beat ∷ []) turns [] live t first last → DroneLived stores before now most start end first last
+pub drone_over : {S : Type 0} (stores : Stores S) (before now : S) (most : ℕ) (start : DroneSide) (end : Option RunEnd) (beat : ℕ) (turns : List Turn) (live : LiveNode) (t : RunLog) (first last : Outside) → (end ≡ Some (Stopped StampsSpent) → ⊥) → (end ≡ Some (Live StoreFault) → ⊥) → IsWhole end [] → DroneEnds most end turns last → Between stores before now (Drone start) (Beats beat ∷ []) turns [] live t first last → DroneLived stores before now most start end first last
 drone_over stores before now most start end beat turns live t first last stamps store whole ends b = record {
   run = record {
     opening = Beats beat ∷ [];
@@ -119,7 +119,7 @@ drone_over stores before now most start end beat turns live t first last stamps 
 }
 
 -- it took all its turns
-pub turns_taken : {S : Type 0} (stores : Stores S) (before now : S) (start : DroneSide) (beat most : ℕ) (live : LiveNode) (t : Teller) (first last : Outside) → TurnsTaken stores before now (Drone start) (Beats beat ∷ []) most live t first last → DroneLived stores before now most start (Some (Live (PortTurns most))) first last
+pub turns_taken : {S : Type 0} (stores : Stores S) (before now : S) (start : DroneSide) (beat most : ℕ) (live : LiveNode) (t : RunLog) (first last : Outside) → TurnsTaken stores before now (Drone start) (Beats beat ∷ []) most live t first last → DroneLived stores before now most start (Some (Live (PortTurns most))) first last
 turns_taken stores before now start beat most live t first last taken =
     drone_over stores before now most start (Some (Live (PortTurns most))) beat taken.turns live t first last stamps store refl (refl, taken.number) taken.between
   where
@@ -130,7 +130,7 @@ turns_taken stores before now start beat most live t first last taken =
     store e = cc
 
 -- its port has ended
-pub port_ended : {S : Type 0} (stores : Stores S) (before now : S) (start : DroneSide) (beat most : ℕ) (turns : List Turn) (live : LiveNode) (t : Teller) (first last : Outside) → length turns < most → PortEnded stores before now (Drone start) (Beats beat ∷ []) turns [] live t first last → DroneLived stores before now most start None first last
+pub port_ended : {S : Type 0} (stores : Stores S) (before now : S) (start : DroneSide) (beat most : ℕ) (turns : List Turn) (live : LiveNode) (t : RunLog) (first last : Outside) → length turns < most → PortEnded stores before now (Drone start) (Beats beat ∷ []) turns [] live t first last → DroneLived stores before now most start None first last
 port_ended stores before now start beat most turns live t first last less ended =
     drone_over stores before now most start None beat turns live t first last stamps store refl (less, ended.ended, ended.spent) ended.between
   where

@@ -22,7 +22,7 @@ use Rattle.run_status.specs.declared.live_ends.LiveEnd.TheVariants.{StoreFault}
 use Rattle.run_status.specs.declared.run_ends.RunEnd.{RunEnd}
 use Rattle.run_status.specs.declared.run_ends.RunEnd.TheVariants.{Stopped, Live}
 use Rattle.live_node.specs.declared.nodes.LiveNode.{LiveNode}
-use Rattle.live_node.specs.declared.tellers.Teller.{Teller}
+use Rattle.live_node.specs.declared.run_log.RunLog.{RunLog}
 use Rattle.live_node.specs.Calls.{LiveCall, call_does}
 use Rattle.live_node.specs.Ports.{IsTellingEnd, end_by}
 use Rattle.live_node.specs.Runs.{Outside, Stores}
@@ -139,7 +139,7 @@ not_refused end (inr (inr e)) h = cc
 
 -- ---- a call that wasn't made
 
-abbrev pub not_followed : {S : Type 0} (stores : Stores S) (before now : S) (end : RunEnd) (start : Node) (made : List LiveCall) (call : LiveCall) (live : LiveNode) (t : Teller) (first last : Outside) → (o : Output stores before now start made live t first last) → (end ≡ Stopped StampsSpent → call_does call o.node ≡ None) → (end ≡ Live StoreFault → ⊥) → CallLeaves (stores.contents now) o.node (call ∷ []) → CallsStopped stores before now end start made (call ∷ []) first last
+abbrev pub not_followed : {S : Type 0} (stores : Stores S) (before now : S) (end : RunEnd) (start : Node) (made : List LiveCall) (call : LiveCall) (live : LiveNode) (t : RunLog) (first last : Outside) → (o : Output stores before now start made live t first last) → (end ≡ Stopped StampsSpent → call_does call o.node ≡ None) → (end ≡ Live StoreFault → ⊥) → CallLeaves (stores.contents now) o.node (call ∷ []) → CallsStopped stores before now end start made (call ∷ []) first last
 not_followed stores before now end start made call live t first last o spent store left = record {
   more = [];
   rest = call ∷ [];

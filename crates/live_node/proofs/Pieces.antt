@@ -17,7 +17,7 @@ use Rattle.run_status.specs.declared.run_ends.RunEnd.{RunEnd}
 use Rattle.run_status.specs.declared.run_ends.RunEnd.TheVariants.{Stopped, Live}
 use Rattle.live_node.specs.declared.nodes.LiveNode.{LiveNode}
 use Rattle.live_node.specs.declared.nodes.LiveNode.TheVariants.{Drone as LiveDrone, Station as LiveStation}
-use Rattle.live_node.specs.declared.tellers.Teller.{Teller}
+use Rattle.live_node.specs.declared.run_log.RunLog.{RunLog}
 use Rattle.live_node.specs.Nodes.{IsLive, HasHeard, end_of}
 use Rattle.live_node.specs.Calls.{LiveCall, Hears, extras_at, calls_do, IsTime}
 use Rattle.live_node.specs.Turns.{Reads, Breaks}
@@ -62,7 +62,7 @@ node_extras (Station n) (LiveDrone v) is = absurd is
 node_extras (Station n) (LiveStation v) is = sym is.link.end.extras
 
 -- the node was given up at them
-pub piece_broken : {S : Type 0} {stores : Stores S} {before old now : S} {taken : List ℕ} {given : List Event} {piece : List ℕ} {start : Node} {made : List LiveCall} {live : LiveNode} {t : Teller} {first last : Outside} {extras : List (ℕ × ℕ)} (at : ℕ) (fault : NodeFault) → IsTime first.time at → (o : Output stores before old start made live t first last) → (end_of live).endpoint.extras ≡ extras → HasHeard taken given live → Serves stores.faults stores.is_infallible old now → PieceFails fault at piece live (HasFailed stores.faults stores.is_infallible old now) → PieceLeaves at piece (AllKept (HasFailed stores.faults stores.is_infallible old now)) (stores.contents now) live → PieceStopped stores before now (end_by fault) extras taken given piece start made first last
+pub piece_broken : {S : Type 0} {stores : Stores S} {before old now : S} {taken : List ℕ} {given : List Event} {piece : List ℕ} {start : Node} {made : List LiveCall} {live : LiveNode} {t : RunLog} {first last : Outside} {extras : List (ℕ × ℕ)} (at : ℕ) (fault : NodeFault) → IsTime first.time at → (o : Output stores before old start made live t first last) → (end_of live).endpoint.extras ≡ extras → HasHeard taken given live → Serves stores.faults stores.is_infallible old now → PieceFails fault at piece live (HasFailed stores.faults stores.is_infallible old now) → PieceLeaves at piece (AllKept (HasFailed stores.faults stores.is_infallible old now)) (stores.contents now) live → PieceStopped stores before now (end_by fault) extras taken given piece start made first last
 piece_broken {S} {stores} {before} {old} {now} {taken} {given} {piece} {start} {made} {live} {t} {first} {last} {extras} at fault timed o same heard serves fails left = record {
   turn = Breaks piece at;
   timed = timed;

@@ -7,7 +7,7 @@ use Rattle.mav_sign.specs.Streams.{reader_of}
 use Rattle.node_reports.specs.Nodes.{Node}
 use Rattle.run_status.specs.declared.run_ends.RunEnd.{RunEnd}
 use Rattle.live_node.specs.declared.nodes.LiveNode.{LiveNode}
-use Rattle.live_node.specs.declared.tellers.Teller.{Teller}
+use Rattle.live_node.specs.declared.run_log.RunLog.{RunLog}
 use Rattle.live_node.specs.Nodes.{end_of}
 use Rattle.live_node.specs.Calls.{extras_at, LiveCall}
 use Rattle.live_node.specs.Turns.{Turn, turn_bytes, turn_events, Rest, rest_calls, calls_of}
@@ -20,10 +20,10 @@ use Rattle.live_node.proofs.Readers.{heard_same, extras_same}
 use Rattle.live_node.proofs.Results.{because}
 use Rattle.live_node.proofs.Waits.{output_regroup}
 
-abbrev pub rest_of : {S : Type 0} {stores : Stores S} {before now : S} {start : Node} {made : List LiveCall} {live : LiveNode} {t : Teller} {first last : Outside} → WaitDone stores before now start made live t first last → Rest
+abbrev pub rest_of : {S : Type 0} {stores : Stores S} {before now : S} {start : Node} {made : List LiveCall} {live : LiveNode} {t : RunLog} {first last : Outside} → WaitDone stores before now start made live t first last → Rest
 rest_of w = record { tick = w.tick; beat = w.beat; sim = w.sim }
 
-pub rest_done : {S : Type 0} {stores : Stores S} {before old now : S} {start : Node} {opening : List LiveCall} {turns : List Turn} {rests : List Rest} {was live : LiveNode} {t u : Teller} {first last then : Outside} → PortEnded stores before old start opening turns rests was t first last → SameRead last.link then.link → reader_of (end_of live).endpoint ≡ reader_of (end_of was).endpoint → (w : WaitDone stores before now start (calls_of opening turns rests) live u first then) → PortEnded stores before now start opening turns (rests ++ rest_of w ∷ []) live u first then
+pub rest_done : {S : Type 0} {stores : Stores S} {before old now : S} {start : Node} {opening : List LiveCall} {turns : List Turn} {rests : List Rest} {was live : LiveNode} {t u : RunLog} {first last then : Outside} → PortEnded stores before old start opening turns rests was t first last → SameRead last.link then.link → reader_of (end_of live).endpoint ≡ reader_of (end_of was).endpoint → (w : WaitDone stores before now start (calls_of opening turns rests) live u first then) → PortEnded stores before now start opening turns (rests ++ rest_of w ∷ []) live u first then
 rest_done {S} {stores} {before} {old} {now} {start} {opening} {turns} {rests} {was} {live} {t} {u} {first} {last} {then} p read reader w =
     let b = p.between in
     let r = rest_of w in
@@ -48,7 +48,7 @@ rest_done {S} {stores} {before} {old} {now} {start} {opening} {turns} {rests} {w
 abbrev pub cut_rest : {S : Type 0} {stores : Stores S} {before now : S} {end : RunEnd} {start : Node} {made : List LiveCall} {first last : Outside} → WaitStopped stores before now end start made first last → Rest
 cut_rest w = record { tick = w.tick; beat = w.beat; sim = w.sim }
 
-pub rest_stopped : {S : Type 0} {stores : Stores S} {before old now : S} {end : RunEnd} {start : Node} {opening : List LiveCall} {turns : List Turn} {rests : List Rest} {was : LiveNode} {t : Teller} {first last then : Outside} → PortEnded stores before old start opening turns rests was t first last → SameRead last.link then.link → (w : WaitStopped stores before now end start (calls_of opening turns rests) first then) → RunAt stores before now start (Some end) opening turns (rests ++ cut_rest w ∷ []) first then
+pub rest_stopped : {S : Type 0} {stores : Stores S} {before old now : S} {end : RunEnd} {start : Node} {opening : List LiveCall} {turns : List Turn} {rests : List Rest} {was : LiveNode} {t : RunLog} {first last then : Outside} → PortEnded stores before old start opening turns rests was t first last → SameRead last.link then.link → (w : WaitStopped stores before now end start (calls_of opening turns rests) first then) → RunAt stores before now start (Some end) opening turns (rests ++ cut_rest w ∷ []) first then
 rest_stopped {S} {stores} {before} {old} {now} {end} {start} {opening} {turns} {rests} {was} {t} {first} {last} {then} p read w =
     let b = p.between in
     let r = cut_rest w in

@@ -16,7 +16,7 @@ use Rattle.run_status.specs.declared.live_ends.LiveEnd.TheVariants.{StoreFault, 
 use Rattle.run_status.specs.declared.run_ends.RunEnd.{RunEnd}
 use Rattle.run_status.specs.declared.run_ends.RunEnd.TheVariants.{Stopped, Live}
 use Rattle.live_node.specs.declared.nodes.LiveNode.{LiveNode}
-use Rattle.live_node.specs.declared.tellers.Teller.{Teller}
+use Rattle.live_node.specs.declared.run_log.RunLog.{RunLog}
 use Rattle.live_node.specs.Nodes.{HasHeard, end_of}
 use Rattle.live_node.specs.Calls.{extras_at, LiveCall, AreTimed}
 use Rattle.live_node.specs.Turns.{Turn, turn_bytes, pauses_over, AllHeard, Rest, calls_of, last_calls}
@@ -36,7 +36,7 @@ no_pauses None = refl
 no_pauses (Some p) = refl
 
 -- after the opening, before the first turn
-pub between_start : {S : Type 0} (stores : Stores S) (before now : S) (start : Node) (opening : List LiveCall) (live : LiveNode) (t : Teller) (first last : Outside) → HasHeard [] [] live → (end_of live).endpoint.extras ≡ extras_at start → SameRead first.link last.link → AreTimed first.time opening → Output stores before now start opening live t first last → Between stores before now start opening [] [] live t first last
+pub between_start : {S : Type 0} (stores : Stores S) (before now : S) (start : Node) (opening : List LiveCall) (live : LiveNode) (t : RunLog) (first last : Outside) → HasHeard [] [] live → (end_of live).endpoint.extras ≡ extras_at start → SameRead first.link last.link → AreTimed first.time opening → Output stores before now start opening live t first last → Between stores before now start opening [] [] live t first last
 between_start stores before now start opening live t first last heard same read timed output = record {
   timed = record { opened = timed; turned = tt; rested = tt };
   input = record {
@@ -105,7 +105,7 @@ heard_in end turns [] all = heard_all end turns all
 heard_in end turns (r ∷ rests) all = all
 
 -- all was done, and then the run ended so
-abbrev pub run_over : {S : Type 0} (stores : Stores S) (before now : S) (start : Node) (end : Option RunEnd) (opening : List LiveCall) (turns : List Turn) (rests : List Rest) (live : LiveNode) (t : Teller) (first last then : Outside) → (end ≡ Some (Stopped StampsSpent) → ⊥) → (end ≡ Some (Live StoreFault) → ⊥) → Still last then → (b : Between stores before now start opening turns rests live t first last) → RunAt stores before now start end opening turns rests first then
+abbrev pub run_over : {S : Type 0} (stores : Stores S) (before now : S) (start : Node) (end : Option RunEnd) (opening : List LiveCall) (turns : List Turn) (rests : List Rest) (live : LiveNode) (t : RunLog) (first last then : Outside) → (end ≡ Some (Stopped StampsSpent) → ⊥) → (end ≡ Some (Live StoreFault) → ⊥) → Still last then → (b : Between stores before now start opening turns rests live t first last) → RunAt stores before now start end opening turns rests first then
 run_over stores before now start end opening turns rests live t first last then stamps store still b =
     let o = b.output in
     record {

@@ -16,7 +16,7 @@ use Rattle.mav_nodes.specs.Stores.{Serves}
 use Rattle.mav_nodes.specs.Streams.{HasRead}
 use Rattle.node_reports.specs.Nodes.{Drone}
 use Rattle.live_node.specs.declared.nodes.LiveNode.TheVariants.{Drone as LiveDrone}
-use Rattle.live_node.specs.declared.tellers.Teller.{Teller}
+use Rattle.live_node.specs.declared.run_log.RunLog.{RunLog}
 use Rattle.live_node.specs.Runs.{Outside, outside, Stores}
 use Rattle.live_node.specs.Progress.{Opened}
 use Rattle.run_status.specs.declared.run_ends.RunEnd.{RunEnd}
@@ -83,7 +83,7 @@ begun key sys (Some (byte ∷ bytes)) view started from = by_image from.either
         }
 
 -- and before its first call
-pub opened : {S : Type 0} (stores : Stores S) (before now : S) (key : List ℕ) (sys : ℕ) (view : DroneView) (t : Teller) (link : LinkState) (text : Option (List ℕ)) (time : Option ℕ) → (b : Begun key sys (stores.contents before) view) → Serves stores.faults stores.is_infallible before now → stores.contents now ≡ stores.contents before → HasRead [] [] view.link → t.name ≡ (record { sys = sys; comp = 1 }) → t.sent ≡ 0 → t.ending ≡ None → t.ticks ≡ 0 → Opened stores before now (Drone b.node) (LiveDrone view) t (outside link text time)
+pub opened : {S : Type 0} (stores : Stores S) (before now : S) (key : List ℕ) (sys : ℕ) (view : DroneView) (t : RunLog) (link : LinkState) (text : Option (List ℕ)) (time : Option ℕ) → (b : Begun key sys (stores.contents before) view) → Serves stores.faults stores.is_infallible before now → stores.contents now ≡ stores.contents before → HasRead [] [] view.link → t.name ≡ (record { sys = sys; comp = 1 }) → t.sent ≡ 0 → t.ending ≡ None → t.ticks ≡ 0 → Opened stores before now (Drone b.node) (LiveDrone view) t (outside link text time)
 opened stores before now key sys view t link text time b serves stays stream name sent ending ticks = record {
   output = record {
     node = Drone b.node;

@@ -22,9 +22,9 @@ use Rattle.run_status.specs.declared.run_ends.RunEnd.TheVariants.{Usage, Stopped
 use Rattle.live_node.specs.declared.nodes.LiveNode.{LiveNode}
 use Rattle.live_node.specs.declared.nodes.LiveNode.TheVariants.{Station as LiveStation}
 use Rattle.live_node.specs.declared.stations.StationPlan.{StationPlan}
-use Rattle.live_node.specs.declared.tellers.Ending.{Ending}
-use Rattle.live_node.specs.declared.tellers.Ending.TheVariants.{Done, Refused, Unanswered}
-use Rattle.live_node.specs.declared.tellers.Teller.{Teller}
+use Rattle.live_node.specs.declared.run_log.Ending.{Ending}
+use Rattle.live_node.specs.declared.run_log.Ending.TheVariants.{Done, Refused, Unanswered}
+use Rattle.live_node.specs.declared.run_log.RunLog.{RunLog}
 use Rattle.live_node.specs.Calls.{LiveCall, Beats, Obeys, calls_do, IsTime}
 use Rattle.live_node.specs.Turns.{Turn, Rest}
 use Rattle.live_node.specs.Texts.{ending_over}
@@ -47,7 +47,7 @@ may_rest allowed [] h = tt
 may_rest allowed (r ∷ rests) h = h
 
 -- a wait of which no call is left
-wait_over : {S : Type 0} (stores : Stores S) (before now : S) (plan : StationPlan) (start : Node) (opening : List LiveCall) (ended : Result (List ℕ) RunEnd) (turns : List Turn) (rests : List Rest) (live : LiveNode) (t : Teller) (first last : Outside) → (result_err ended ≡ Some (Stopped StampsSpent) → ⊥) → (result_err ended ≡ Some (Live StoreFault) → ⊥) → IsWhole (result_err ended) [] → StationEnds plan ended turns (verdict plan.ticks t.ticks t.ending) → length turns ≤ plan.turns → MayRest (HasEnded last.link) rests → Awaited plan.ticks start opening turns rests → Between stores before now start opening turns rests live t first last → WaitedFor stores before now plan start opening ended first last
+wait_over : {S : Type 0} (stores : Stores S) (before now : S) (plan : StationPlan) (start : Node) (opening : List LiveCall) (ended : Result (List ℕ) RunEnd) (turns : List Turn) (rests : List Rest) (live : LiveNode) (t : RunLog) (first last : Outside) → (result_err ended ≡ Some (Stopped StampsSpent) → ⊥) → (result_err ended ≡ Some (Live StoreFault) → ⊥) → IsWhole (result_err ended) [] → StationEnds plan ended turns (verdict plan.ticks t.ticks t.ending) → length turns ≤ plan.turns → MayRest (HasEnded last.link) rests → Awaited plan.ticks start opening turns rests → Between stores before now start opening turns rests live t first last → WaitedFor stores before now plan start opening ended first last
 wait_over stores before now plan start opening ended turns rests live t first last stamps store whole ends within rested awaited b =
     let o = b.output in
     record {
@@ -64,7 +64,7 @@ wait_over stores before now plan start opening ended turns rests live t first la
     }
 
 -- by the verdict
-waited : {S : Type 0} (stores : Stores S) (before now : S) (plan : StationPlan) (start : Node) (opening : List LiveCall) (turns : List Turn) (rests : List Rest) (live : LiveNode) (t : Teller) (first last : Outside) → (verdict plan.ticks t.ticks t.ending ≡ None → length turns ≡ plan.turns) → length turns ≤ plan.turns → MayRest (HasEnded last.link) rests → Awaited plan.ticks start opening turns rests → Between stores before now start opening turns rests live t first last → WaitedFor stores before now plan start opening (judged plan (verdict plan.ticks t.ticks t.ending)) first last
+waited : {S : Type 0} (stores : Stores S) (before now : S) (plan : StationPlan) (start : Node) (opening : List LiveCall) (turns : List Turn) (rests : List Rest) (live : LiveNode) (t : RunLog) (first last : Outside) → (verdict plan.ticks t.ticks t.ending ≡ None → length turns ≡ plan.turns) → length turns ≤ plan.turns → MayRest (HasEnded last.link) rests → Awaited plan.ticks start opening turns rests → Between stores before now start opening turns rests live t first last → WaitedFor stores before now plan start opening (judged plan (verdict plan.ticks t.ticks t.ending)) first last
 waited stores before now plan start opening turns rests live t first last number within rested awaited b = by_ending t.ending refl
   where
     over : (ended : Result (List ℕ) RunEnd) → (result_err ended ≡ Some (Stopped StampsSpent) → ⊥) → (result_err ended ≡ Some (Live StoreFault) → ⊥) → IsWhole (result_err ended) [] → StationEnds plan ended turns (verdict plan.ticks t.ticks t.ending) → WaitedFor stores before now plan start opening ended first last
@@ -102,11 +102,11 @@ waited stores before now plan start opening turns rests live t first last number
     by_ending None e = by_test e (nat_lt t.ticks plan.ticks) refl
 
 -- the port hadn't ended
-pub waited_turns : {S : Type 0} {stores : Stores S} {before now : S} {plan : StationPlan} {start : Node} {opening : List LiveCall} {live : LiveNode} {t : Teller} {first last : Outside} → WatchDone stores before now plan start opening live t first last → WaitedFor stores before now plan start opening (judged plan (verdict plan.ticks t.ticks t.ending)) first last
+pub waited_turns : {S : Type 0} {stores : Stores S} {before now : S} {plan : StationPlan} {start : Node} {opening : List LiveCall} {live : LiveNode} {t : RunLog} {first last : Outside} → WatchDone stores before now plan start opening live t first last → WaitedFor stores before now plan start opening (judged plan (verdict plan.ticks t.ticks t.ending)) first last
 waited_turns {S} {stores} {before} {now} {plan} {start} {opening} {live} {t} {first} {last} w = waited stores before now plan start opening w.turns [] live t first last w.number w.within tt w.awaited w.between
 
 -- it had
-pub waited_rests : {S : Type 0} {stores : Stores S} {before now : S} {plan : StationPlan} {start : Node} {opening : List LiveCall} {turns : List Turn} {live : LiveNode} {t : Teller} {first last : Outside} → length turns ≤ plan.turns → Outlasted stores before now plan.ticks start opening turns live t first last → WaitedFor stores before now plan start opening (judged plan (verdict plan.ticks t.ticks t.ending)) first last
+pub waited_rests : {S : Type 0} {stores : Stores S} {before now : S} {plan : StationPlan} {start : Node} {opening : List LiveCall} {turns : List Turn} {live : LiveNode} {t : RunLog} {first last : Outside} → length turns ≤ plan.turns → Outlasted stores before now plan.ticks start opening turns live t first last → WaitedFor stores before now plan start opening (judged plan (verdict plan.ticks t.ticks t.ending)) first last
 waited_rests {S} {stores} {before} {now} {plan} {start} {opening} {turns} {live} {t} {first} {last} within w =
     waited stores before now plan start opening turns w.rests live t first last (λ e. absurd (w.over e)) within (may_rest (HasEnded last.link) w.rests (w.ended.ended, w.ended.spent)) w.awaited w.ended.between
 
@@ -236,7 +236,7 @@ order_ends_so plan (Live StoreFault) turns said h = tt
 order_ends_so plan (Live (PortTurns most)) turns said h = absurd h
 order_ends_so plan (Live PortFault) turns said h = tt
 
-pub stopped_in_order : {S : Type 0} (stores : Stores S) (before middle now : S) (end : RunEnd) (plan : StationPlan) (order : Order) (start : Node) (beat : ℕ) (live : LiveNode) (t : Teller) (first then last : Outside) → IsOrderEnd end → SameRead first.link last.link → IsTime first.time beat → (o : Output stores before middle start (Beats beat ∷ []) live t first then) → OrderStopped stores before now end start (Beats beat ∷ []) o.node order first last → StationLived stores before now plan order start (Err end) first last
+pub stopped_in_order : {S : Type 0} (stores : Stores S) (before middle now : S) (end : RunEnd) (plan : StationPlan) (order : Order) (start : Node) (beat : ℕ) (live : LiveNode) (t : RunLog) (first then last : Outside) → IsOrderEnd end → SameRead first.link last.link → IsTime first.time beat → (o : Output stores before middle start (Beats beat ∷ []) live t first then) → OrderStopped stores before now end start (Beats beat ∷ []) o.node order first last → StationLived stores before now plan order start (Err end) first last
 stopped_in_order stores before middle now end plan order start beat live t first then last is read timed o c =
     let s = made_before stores before now end start [] (Beats beat ∷ []) (Obeys order c.at ∷ []) first last c.stopped in
     let keeps = beat_keeps order beat start o.node o.events o.run in
@@ -285,7 +285,7 @@ lived stores before now plan order start was events beat at r first last run acc
 
 -- ---- from its start
 
-pub opened_station : {S : Type 0} (stores : Stores S) (before now : S) (key : List ℕ) (me : Stream) (boot : ℕ) (view : StationView) (t : Teller) (link : LinkState) (text : Option (List ℕ)) (time : Option ℕ) → Serves stores.faults stores.is_infallible before now → IsStation (new_station key me boot) view → HasRead [] [] view.link → t.name ≡ (record { sys = me.sys; comp = me.comp }) → t.sent ≡ 0 → t.ending ≡ None → t.ticks ≡ 0 → Opened stores before now (Station (new_station key me boot)) (LiveStation view) t (outside link text time)
+pub opened_station : {S : Type 0} (stores : Stores S) (before now : S) (key : List ℕ) (me : Stream) (boot : ℕ) (view : StationView) (t : RunLog) (link : LinkState) (text : Option (List ℕ)) (time : Option ℕ) → Serves stores.faults stores.is_infallible before now → IsStation (new_station key me boot) view → HasRead [] [] view.link → t.name ≡ (record { sys = me.sys; comp = me.comp }) → t.sent ≡ 0 → t.ending ≡ None → t.ticks ≡ 0 → Opened stores before now (Station (new_station key me boot)) (LiveStation view) t (outside link text time)
 opened_station stores before now key me boot view t link text time serves is stream name sent ending ticks = record {
   output = record {
     node = Station (new_station key me boot);

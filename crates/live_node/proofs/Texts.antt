@@ -7,8 +7,8 @@ use Rattle.mav_names.specs.declared.names.Name.{Name}
 use Rattle.mav_nodes.specs.News.{NodeEvent, shown}
 use Rattle.fleet_report.specs.Events.{events_text}
 use Rattle.node_reports.specs.Reporting.{reported_by}
-use Rattle.live_node.specs.declared.tellers.Ending.{Ending}
-use Rattle.live_node.specs.declared.tellers.Teller.{Teller}
+use Rattle.live_node.specs.declared.run_log.Ending.{Ending}
+use Rattle.live_node.specs.declared.run_log.RunLog.{RunLog}
 use Rattle.live_node.specs.Texts.{frame_bytes, frames_text, count_with, count_over, lines_of, ending_in, ending_over, first_of, tells}
 
 pub frames-append : (xs ys : List NodeEvent) → frames_text (map shown (xs ++ ys)) ≡ frames_text (map shown xs) ++ frames_text (map shown ys)
@@ -29,5 +29,5 @@ lines-append name before (x ∷ xs) ys =
     ap (λ (l : List ℕ). first ++ l) (lines-append name (count_with before x) xs ys)
     ∙ sym (append_assoc first (lines_of name (count_with before x) xs) (lines_of name (count_over (count_with before x) xs) ys))
 
-pub tells_both : (t : Teller) (xs ys : List NodeEvent) → tells (tells t xs) ys ≡ tells t (xs ++ ys)
+pub tells_both : (t : RunLog) (xs ys : List NodeEvent) → tells (tells t xs) ys ≡ tells t (xs ++ ys)
 tells_both t xs ys = sym (ap (λ (n : ℕ). record t { sent = n; ending = ending_over t.ending (xs ++ ys) }) (count-append t.sent xs ys) ∙ ap (λ (e : Option Ending). record t { sent = count_over (count_over t.sent xs) ys; ending = e }) (ending-append t.ending xs ys))

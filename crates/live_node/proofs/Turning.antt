@@ -14,7 +14,7 @@ use Rattle.mav_frame.specs.declared.events.Event.{Event}
 use Rattle.node_reports.specs.Nodes.{Node}
 use Rattle.run_status.specs.declared.run_ends.RunEnd.{RunEnd}
 use Rattle.live_node.specs.declared.nodes.LiveNode.{LiveNode}
-use Rattle.live_node.specs.declared.tellers.Teller.{Teller}
+use Rattle.live_node.specs.declared.run_log.RunLog.{RunLog}
 use Rattle.live_node.specs.Nodes.{HasHeard, end_of}
 use Rattle.live_node.specs.Calls.{extras_at, LiveCall, Ticks, Beats, Flies}
 use Rattle.live_node.specs.Turns.{Turn, Waits, turn_calls, turn_bytes, turn_events, idles_with, pauses_with, idles_over, pauses_over, ReadsOn, ReadFrom, IsHeard, calls_of, IsTurnTimed}
@@ -74,7 +74,7 @@ came_in extras turns turn live first now then i came reads = record {
 }
 
 -- a turn was done
-pub turn_done : {S : Type 0} (stores : Stores S) (before old now : S) (start : Node) (opening : List LiveCall) (turns : List Turn) (turn : Turn) (was live : LiveNode) (t u : Teller) (first last then : Outside) → Between stores before old start opening turns [] was t first last → Came turn last.link then.link → IsTurnTimed first.time turn → IsHeard turn → ReadsOn (extras_at start) (flat_map turn_bytes turns) (flat_map turn_events turns) turn → HasHeard (flat_map turn_bytes turns ++ turn_bytes turn) (flat_map turn_events turns ++ turn_events turn) live → (end_of live).endpoint.extras ≡ extras_at start → Output stores before now start (calls_of opening turns [] ++ turn_calls turn) live u first then → TurnTaken stores before now start opening turns live u first then
+pub turn_done : {S : Type 0} (stores : Stores S) (before old now : S) (start : Node) (opening : List LiveCall) (turns : List Turn) (turn : Turn) (was live : LiveNode) (t u : RunLog) (first last then : Outside) → Between stores before old start opening turns [] was t first last → Came turn last.link then.link → IsTurnTimed first.time turn → IsHeard turn → ReadsOn (extras_at start) (flat_map turn_bytes turns) (flat_map turn_events turns) turn → HasHeard (flat_map turn_bytes turns ++ turn_bytes turn) (flat_map turn_events turns ++ turn_events turn) live → (end_of live).endpoint.extras ≡ extras_at start → Output stores before now start (calls_of opening turns [] ++ turn_calls turn) live u first then → TurnTaken stores before now start opening turns live u first then
 turn_done stores before old now start opening turns turn was live t u first last then b came timed all reads heard same output =
     let c = came_in (extras_at start) turns turn was first.link last.link then.link b.input came reads in
     record {
@@ -107,7 +107,7 @@ spent_in extras (x ∷ xs) turn node rest h = record {
 }
 
 -- a run stopped in a turn
-pub turn_stopped : {S : Type 0} (stores : Stores S) (before old now : S) (end : RunEnd) (start : Node) (opening : List LiveCall) (turns : List Turn) (turn : Turn) (was : LiveNode) (t : Teller) (first last then : Outside) → Between stores before old start opening turns [] was t first last → Came turn last.link then.link → IsTurnTimed first.time turn → LastHeard (Some end) turn → ReadsOn (extras_at start) (flat_map turn_bytes turns) (flat_map turn_events turns) turn → TurnStopped stores before now end (extras_at start) (flat_map turn_bytes turns) (flat_map turn_events turns) start (calls_of opening turns []) turn first then → RunAt stores before now start (Some end) opening (turns ++ turn ∷ []) [] first then
+pub turn_stopped : {S : Type 0} (stores : Stores S) (before old now : S) (end : RunEnd) (start : Node) (opening : List LiveCall) (turns : List Turn) (turn : Turn) (was : LiveNode) (t : RunLog) (first last then : Outside) → Between stores before old start opening turns [] was t first last → Came turn last.link then.link → IsTurnTimed first.time turn → LastHeard (Some end) turn → ReadsOn (extras_at start) (flat_map turn_bytes turns) (flat_map turn_events turns) turn → TurnStopped stores before now end (extras_at start) (flat_map turn_bytes turns) (flat_map turn_events turns) start (calls_of opening turns []) turn first then → RunAt stores before now start (Some end) opening (turns ++ turn ∷ []) [] first then
 turn_stopped stores before old now end start opening turns turn was t first last then b came timed heard reads s =
     let c = came_in (extras_at start) turns turn was first.link last.link then.link b.input came reads in
     let made = calls_of opening turns [] in
@@ -143,7 +143,7 @@ wait_turn stores before now end extras taken given start made tick beat sim firs
     at node (call ∷ rest) h = h
 
 -- a read moved nothing of what went out
-pub output_read : {S : Type 0} (stores : Stores S) (before now : S) (start : Node) (made : List LiveCall) (live : LiveNode) (t : Teller) (first last then : Outside) → then.link.faults ≡ last.link.faults → then.link.sent ≡ last.link.sent → then.text ≡ last.text → then.time ≡ last.time → Output stores before now start made live t first last → Output stores before now start made live t first then
+pub output_read : {S : Type 0} (stores : Stores S) (before now : S) (start : Node) (made : List LiveCall) (live : LiveNode) (t : RunLog) (first last then : Outside) → then.link.faults ≡ last.link.faults → then.link.sent ≡ last.link.sent → then.text ≡ last.text → then.time ≡ last.time → Output stores before now start made live t first last → Output stores before now start made live t first then
 output_read stores before now start made live t first last then faults sent text time o = record {
   node = o.node;
   events = o.events;

@@ -3,7 +3,7 @@ use Rattle.std.proofs.Common.{◌≡◌, List, [], ◌∷◌, ◌++◌, Some, sy
 use Rattle.node_reports.specs.Nodes.{Node}
 use Rattle.run_status.specs.declared.run_ends.RunEnd.{RunEnd}
 use Rattle.live_node.specs.declared.nodes.LiveNode.{LiveNode}
-use Rattle.live_node.specs.declared.tellers.Teller.{Teller}
+use Rattle.live_node.specs.declared.run_log.RunLog.{RunLog}
 use Rattle.live_node.specs.Calls.{LiveCall}
 use Rattle.live_node.specs.Runs.{Outside, Stores, IsSpentCall}
 use Rattle.live_node.specs.Progress.{Output, CallsStopped}
@@ -36,5 +36,5 @@ made_before stores before now end start made earlier calls first last s = record
   leaves = s.leaves;
 }
 
-pub output_regroup : {S : Type 0} (stores : Stores S) (before now : S) (start : Node) (xs ys : List LiveCall) (live : LiveNode) (t : Teller) (first last : Outside) → xs ≡ ys → Output stores before now start xs live t first last → Output stores before now start ys live t first last
+pub output_regroup : {S : Type 0} (stores : Stores S) (before now : S) (start : Node) (xs ys : List LiveCall) (live : LiveNode) (t : RunLog) (first last : Outside) → xs ≡ ys → Output stores before now start xs live t first last → Output stores before now start ys live t first last
 output_regroup stores before now start xs ys live t first last e o = subst (λ (calls : List LiveCall). Output stores before now start calls live t first last) e o

@@ -12,9 +12,9 @@ use Rattle.run_status.specs.declared.run_ends.RunEnd.{RunEnd}
 use Rattle.run_status.specs.declared.run_ends.RunEnd.TheVariants.{Live}
 use Rattle.live_node.specs.declared.nodes.LiveNode.{LiveNode}
 use Rattle.live_node.specs.declared.stations.StationPlan.{StationPlan}
-use Rattle.live_node.specs.declared.tellers.Ending.{Ending}
-use Rattle.live_node.specs.declared.tellers.Ending.TheVariants.{Done, Refused, Unanswered}
-use Rattle.live_node.specs.declared.tellers.Teller.{Teller}
+use Rattle.live_node.specs.declared.run_log.Ending.{Ending}
+use Rattle.live_node.specs.declared.run_log.Ending.TheVariants.{Done, Refused, Unanswered}
+use Rattle.live_node.specs.declared.run_log.RunLog.{RunLog}
 use Rattle.live_node.specs.Calls.{LiveCall, ticks_over}
 use Rattle.live_node.specs.Turns.{Turn, turn_calls, Rest, rest_calls, calls_of, last_turn_calls, last_calls}
 use Rattle.live_node.specs.Texts.{ending_over}
@@ -35,7 +35,7 @@ awaits_by most start calls node passed count told ending e f none =
     ap (λ (n : ℕ). verdict most n ending) (sym e) ∙ (ap (λ (x : Option Ending). verdict most passed x) (sym f) ∙ none)
 
 -- without a verdict the operation goes on
-pub awaits : {S : Type 0} {stores : Stores S} {before now : S} {start : Node} {calls : List LiveCall} {live : LiveNode} {t : Teller} {first last : Outside} (most : ℕ) → Output stores before now start calls live t first last → verdict most t.ticks t.ending ≡ None → Awaits most start calls
+pub awaits : {S : Type 0} {stores : Stores S} {before now : S} {start : Node} {calls : List LiveCall} {live : LiveNode} {t : RunLog} {first last : Outside} (most : ℕ) → Output stores before now start calls live t first last → verdict most t.ticks t.ending ≡ None → Awaits most start calls
 awaits {S} {stores} {before} {now} {start} {calls} {live} {t} {first} {last} most o none = record {
   node = o.node;
   events = o.events;
@@ -67,13 +67,13 @@ awaited_rest most start opening (turn ∷ turns) rests r a = record { early = ca
 -- ---- turns
 
 -- turns that were taken so far, and what was awaited before the last of them
-pub record WatchTaken {S : Type 0} (stores : Stores S) (before now : S) (plan : StationPlan) (start : Node) (opening : List LiveCall) (count : ℕ) (live : LiveNode) (teller : Teller) (first last : Outside) : Type 0 where
+pub record WatchTaken {S : Type 0} (stores : Stores S) (before now : S) (plan : StationPlan) (start : Node) (opening : List LiveCall) (count : ℕ) (live : LiveNode) (run_log : RunLog) (first last : Outside) : Type 0 where
   pub turns : List Turn
   pub number : length turns ≡ count
-  pub between : Between stores before now start opening turns [] live teller first last
+  pub between : Between stores before now start opening turns [] live run_log first last
   pub awaited : Awaited plan.ticks start opening turns []
 
-pub watch_more : {S : Type 0} {stores : Stores S} {before old now : S} {plan : StationPlan} {start : Node} {opening : List LiveCall} {count : ℕ} {was live : LiveNode} {t u : Teller} {first last next : Outside} → (w : WatchTaken stores before old plan start opening count was t first last) → verdict plan.ticks t.ticks t.ending ≡ None → TurnTaken stores before now start opening w.turns live u first next → WatchTaken stores before now plan start opening (count + 1) live u first next
+pub watch_more : {S : Type 0} {stores : Stores S} {before old now : S} {plan : StationPlan} {start : Node} {opening : List LiveCall} {count : ℕ} {was live : LiveNode} {t u : RunLog} {first last next : Outside} → (w : WatchTaken stores before old plan start opening count was t first last) → verdict plan.ticks t.ticks t.ending ≡ None → TurnTaken stores before now start opening w.turns live u first next → WatchTaken stores before now plan start opening (count + 1) live u first next
 watch_more {S} {stores} {before} {old} {now} {plan} {start} {opening} {count} {was} {live} {t} {u} {first} {last} {next} w none taken = record {
   turns = w.turns ++ taken.turn ∷ [];
   number = length_more w.turns taken.turn count w.number;
@@ -81,7 +81,7 @@ watch_more {S} {stores} {before} {old} {now} {plan} {start} {opening} {count} {w
   awaited = awaited_turn plan.ticks start opening w.turns taken.turn (awaits plan.ticks w.between.output none);
 }
 
-pub watch_stopped : {S : Type 0} {stores : Stores S} {before old now : S} {end : RunEnd} {plan : StationPlan} {start : Node} {opening : List LiveCall} {count : ℕ} {was : LiveNode} {t : Teller} {first last next : Outside} → (w : WatchTaken stores before old plan start opening count was t first last) → count < plan.turns → verdict plan.ticks t.ticks t.ending ≡ None → TurnStops stores before now end start opening w.turns first next → WatchStopped stores before now end plan start opening first next
+pub watch_stopped : {S : Type 0} {stores : Stores S} {before old now : S} {end : RunEnd} {plan : StationPlan} {start : Node} {opening : List LiveCall} {count : ℕ} {was : LiveNode} {t : RunLog} {first last next : Outside} → (w : WatchTaken stores before old plan start opening count was t first last) → count < plan.turns → verdict plan.ticks t.ticks t.ending ≡ None → TurnStops stores before now end start opening w.turns first next → WatchStopped stores before now end plan start opening first next
 watch_stopped {S} {stores} {before} {old} {now} {end} {plan} {start} {opening} {count} {was} {t} {first} {last} {next} w less none (inl cut) = record {
   turns = w.turns ++ cut.turn ∷ [];
   within = omega (arith, length_more w.turns cut.turn count w.number, less);
@@ -102,16 +102,16 @@ a_verdict (Some a) e f = cc
 -- ---- times
 
 -- times that passed so far, and what was awaited before the last of them
-pub record OutlastTaken {S : Type 0} (stores : Stores S) (before now : S) (most : ℕ) (start : Node) (opening : List LiveCall) (turns : List Turn) (count : ℕ) (live : LiveNode) (teller : Teller) (first last : Outside) : Type 0 where
+pub record OutlastTaken {S : Type 0} (stores : Stores S) (before now : S) (most : ℕ) (start : Node) (opening : List LiveCall) (turns : List Turn) (count : ℕ) (live : LiveNode) (run_log : RunLog) (first last : Outside) : Type 0 where
   pub rests : List Rest
   pub number : length rests ≡ count
-  pub ended : PortEnded stores before now start opening turns rests live teller first last
+  pub ended : PortEnded stores before now start opening turns rests live run_log first last
   pub awaited : Awaited most start opening turns rests
 
 rests_more : (rests : List Rest) (r : Rest) (count : ℕ) → length rests ≡ count → length (rests ++ r ∷ []) ≡ count + 1
 rests_more rests r count number = length-append rests (r ∷ []) ∙ ap (λ (n : ℕ). n + 1) number
 
-pub outlast_more : {S : Type 0} {stores : Stores S} {before old now : S} {most : ℕ} {start : Node} {opening : List LiveCall} {turns : List Turn} {count : ℕ} {was live : LiveNode} {t u : Teller} {first last next : Outside} → (w : OutlastTaken stores before old most start opening turns count was t first last) → verdict most t.ticks t.ending ≡ None → (r : Rest) → PortEnded stores before now start opening turns (w.rests ++ r ∷ []) live u first next → OutlastTaken stores before now most start opening turns (count + 1) live u first next
+pub outlast_more : {S : Type 0} {stores : Stores S} {before old now : S} {most : ℕ} {start : Node} {opening : List LiveCall} {turns : List Turn} {count : ℕ} {was live : LiveNode} {t u : RunLog} {first last next : Outside} → (w : OutlastTaken stores before old most start opening turns count was t first last) → verdict most t.ticks t.ending ≡ None → (r : Rest) → PortEnded stores before now start opening turns (w.rests ++ r ∷ []) live u first next → OutlastTaken stores before now most start opening turns (count + 1) live u first next
 outlast_more {S} {stores} {before} {old} {now} {most} {start} {opening} {turns} {count} {was} {live} {t} {u} {first} {last} {next} w none r ended = record {
   rests = w.rests ++ r ∷ [];
   number = rests_more w.rests r count w.number;
@@ -119,7 +119,7 @@ outlast_more {S} {stores} {before} {old} {now} {most} {start} {opening} {turns} 
   awaited = awaited_rest most start opening turns w.rests r (awaits most w.ended.between.output none);
 }
 
-pub outlast_stopped : {S : Type 0} {stores : Stores S} {before old now : S} {end : RunEnd} {most : ℕ} {start : Node} {opening : List LiveCall} {turns : List Turn} {count : ℕ} {was : LiveNode} {t : Teller} {first last next : Outside} → (w : OutlastTaken stores before old most start opening turns count was t first last) → verdict most t.ticks t.ending ≡ None → SameRead last.link next.link → WaitStopped stores before now end start (calls_of opening turns w.rests) first next → OutlastStopped stores before now end most start opening turns first next
+pub outlast_stopped : {S : Type 0} {stores : Stores S} {before old now : S} {end : RunEnd} {most : ℕ} {start : Node} {opening : List LiveCall} {turns : List Turn} {count : ℕ} {was : LiveNode} {t : RunLog} {first last next : Outside} → (w : OutlastTaken stores before old most start opening turns count was t first last) → verdict most t.ticks t.ending ≡ None → SameRead last.link next.link → WaitStopped stores before now end start (calls_of opening turns w.rests) first next → OutlastStopped stores before now end most start opening turns first next
 outlast_stopped {S} {stores} {before} {old} {now} {end} {most} {start} {opening} {turns} {count} {was} {t} {first} {last} {next} w none read s = record {
   rests = w.rests ++ cut_rest s ∷ [];
   stopped = rest_stopped w.ended read s;
@@ -151,6 +151,6 @@ all_passed opening turns rests most fits number =
     let least = rest_ticks rests (ticks_over (ticks_over 0 opening) (flat_map turn_calls turns)) in
     omega (arith, split, least, number, fits)
 
-pub outlasted : {S : Type 0} {stores : Stores S} {before now : S} {most : ℕ} {start : Node} {opening : List LiveCall} {turns : List Turn} {live : LiveNode} {t : Teller} {first last : Outside} → most < 2 ^ 64 → OutlastTaken stores before now most start opening turns most live t first last → verdict most t.ticks t.ending ≡ None → ⊥
+pub outlasted : {S : Type 0} {stores : Stores S} {before now : S} {most : ℕ} {start : Node} {opening : List LiveCall} {turns : List Turn} {live : LiveNode} {t : RunLog} {first last : Outside} → most < 2 ^ 64 → OutlastTaken stores before now most start opening turns most live t first last → verdict most t.ticks t.ending ≡ None → ⊥
 outlasted {S} {stores} {before} {now} {most} {start} {opening} {turns} {live} {t} {first} {last} fits w none =
     no_time_left t.ending t.ticks most none (subst (λ (n : ℕ). most ≤ n) (sym w.ended.between.output.ticks) (all_passed opening turns w.rests most fits w.number))

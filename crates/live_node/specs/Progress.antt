@@ -18,7 +18,7 @@ use Rattle.run_status.specs.declared.run_ends.RunEnd.TheVariants.{Stopped}
 use Rattle.live_node.specs.declared.nodes.LiveNode.{LiveNode}
 use Rattle.live_node.specs.declared.nodes.Due.{Due}
 use Rattle.live_node.specs.declared.nodes.Due.TheVariants.{Tick, Heartbeat, Sim}
-use Rattle.live_node.specs.declared.tellers.Teller.{Teller}
+use Rattle.live_node.specs.declared.run_log.RunLog.{RunLog}
 use Rattle.live_node.specs.Nodes.{IsLive, HasHeard, IsKeptBy, end_of}
 use Rattle.live_node.specs.Calls.{extras_at, LiveCall, Hears, Ticks, Beats, Flies, calls_do, IsTime, AreTimed, ticks_with, ticks_over}
 use Rattle.live_node.specs.Turns.{Turn, turn_calls, turn_bytes, turn_events, idles_with, pauses_with, idles_over, pauses_over, ReadsOn, ReadFrom, IsPieceLength, AllHeard, Rest, calls_of, IsTurnTimed}
@@ -28,23 +28,23 @@ use Rattle.live_node.specs.Runs.{Outside, Stores, Kept, Written, Timed, IsSpentA
 use Rattle.live_node.specs.GivenUp.{CallLeaves}
 
 -- the lines of a call's news were written; or it stopped so
-pub record Prints (end : Option RunEnd) (events : List NodeEvent) (old new : Teller) (text_old text_new : Option (List ℕ)) : Type 0 where
+pub record Prints (end : Option RunEnd) (events : List NodeEvent) (old new : RunLog) (text_old text_new : Option (List ℕ)) : Type 0 where
   pub printed : PrintedBy end text_old text_new (lines_of old.name old.sent events)
   pub told : end ≡ None → new ≡ tells old events
 
 -- what a call's news led to: its frames were written, and its lines; or it stopped so
-pub record Said (end : Option RunEnd) (events : List NodeEvent) (old new : Teller) (link_old link_new : LinkState) (text_old text_new : Option (List ℕ)) : Type 0 where
+pub record Said (end : Option RunEnd) (events : List NodeEvent) (old new : RunLog) (link_old link_new : LinkState) (text_old text_new : Option (List ℕ)) : Type 0 where
   pub sent : SentBy end link_old.sent link_new.sent (frames_text (map shown events))
   pub printed : PrintedBy end text_old text_new (lines_of old.name old.sent events)
   pub told : end ≡ None → new ≡ tells old events
 
--- a report has the lines of these events more, and the teller has told them
-pub record Tells (events : List NodeEvent) (old new : Teller) (before after : ReportState) : Type 0 where
+-- a report has the lines of these events more, and the run_log has told them
+pub record Tells (events : List NodeEvent) (old new : RunLog) (before after : ReportState) : Type 0 where
   pub told : new ≡ tells old events
   pub silent : before.frames ≡ false → after ≡ with_text before (lines_of old.name old.sent events)
 
 -- a report has them alone
-pub record TellsAll (events : List NodeEvent) (old new : Teller) (report : ReportState) : Type 0 where
+pub record TellsAll (events : List NodeEvent) (old new : RunLog) (report : ReportState) : Type 0 where
   pub told : new ≡ tells old events
   pub text : report.text ≡ lines_of old.name old.sent events
 
@@ -54,8 +54,8 @@ due_call Tick at = Ticks at
 due_call Heartbeat at = Beats at
 due_call Sim at = Flies at
 
--- the teller after it counted a call, if that was a tick
-abbrev pub counted : LiveCall → Teller → Teller
+-- the run_log after it counted a call, if that was a tick
+abbrev pub counted : LiveCall → RunLog → RunLog
 counted call t = record t { ticks = ticks_with t.ticks call }
 
 -- what came in: the turns are so read, and the node is after their bytes
@@ -69,15 +69,15 @@ pub record Input (extras : List (ℕ × ℕ)) (turns : List Turn) (live : LiveNo
   pub pauses : now.pauses ≡ option_map (pauses_over turns) first.pauses
 
 -- what went out: after these calls the node is so, and all their frames and lines were written
-pub record Output {S : Type 0} (stores : Stores S) (before now : S) (start : Node) (made : List LiveCall) (live : LiveNode) (teller : Teller) (first last : Outside) : Type 0 where
+pub record Output {S : Type 0} (stores : Stores S) (before now : S) (start : Node) (made : List LiveCall) (live : LiveNode) (run_log : RunLog) (first last : Outside) : Type 0 where
   pub node : Node
   pub events : List NodeEvent
   pub run : calls_do made start ≡ done node events
   pub is : IsLive node live
-  pub name : teller.name ≡ node_name start
-  pub count : teller.sent ≡ count_over 0 events
-  pub ending : teller.ending ≡ ending_over None events
-  pub ticks : teller.ticks ≡ ticks_over 0 made
+  pub name : run_log.name ≡ node_name start
+  pub count : run_log.sent ≡ count_over 0 events
+  pub ending : run_log.ending ≡ ending_over None events
+  pub ticks : run_log.ticks ≡ ticks_over 0 made
   pub faults : last.link.faults ≡ first.link.faults
   pub sent : last.link.sent ≡ append_known first.link.sent (frames_text (map shown events))
   pub printed : last.text ≡ append_known first.text (lines_of (node_name start) 0 events)
@@ -86,10 +86,10 @@ pub record Output {S : Type 0} (stores : Stores S) (before now : S) (start : Nod
   pub stored : IsKeptBy (stores.contents now) live
 
 -- between two turns, or between two times that pass after the port's end
-pub record Between {S : Type 0} (stores : Stores S) (before now : S) (start : Node) (opening : List LiveCall) (turns : List Turn) (rests : List Rest) (live : LiveNode) (teller : Teller) (first last : Outside) : Type 0 where
+pub record Between {S : Type 0} (stores : Stores S) (before now : S) (start : Node) (opening : List LiveCall) (turns : List Turn) (rests : List Rest) (live : LiveNode) (run_log : RunLog) (first last : Outside) : Type 0 where
   pub timed : Timed first.time opening turns rests
   pub input : Input (extras_at start) turns live first.link last.link
-  pub output : Output stores before now start (calls_of opening turns rests) live teller first last
+  pub output : Output stores before now start (calls_of opening turns rests) live run_log first last
 
 -- calls were made in part
 pub record CallsStopped {S : Type 0} (stores : Stores S) (before now : S) (end : RunEnd) (start : Node) (made calls : List LiveCall) (first last : Outside) : Type 0 where
@@ -116,7 +116,7 @@ pub record IsPiece (piece : List ℕ) (turn : Turn) : Type 0 where
   pub pauses : (p : Pauses) → pauses_with turn p ≡ record p { given = p.given + length piece }
 
 -- a piece was heard, and all written
-pub record HeardPiece {S : Type 0} (stores : Stores S) (before now : S) (extras : List (ℕ × ℕ)) (start : Node) (made : List LiveCall) (taken : List ℕ) (given : List Event) (live : LiveNode) (teller : Teller) (first last : Outside) : Type 0 where
+pub record HeardPiece {S : Type 0} (stores : Stores S) (before now : S) (extras : List (ℕ × ℕ)) (start : Node) (made : List LiveCall) (taken : List ℕ) (given : List Event) (live : LiveNode) (run_log : RunLog) (first last : Outside) : Type 0 where
   pub clock : ℕ
   pub timed : IsTime first.time clock
   pub events : List Event
@@ -124,7 +124,7 @@ pub record HeardPiece {S : Type 0} (stores : Stores S) (before now : S) (extras 
   pub grows : GrowsBy extras taken given events
   pub heard : HasHeard taken (given ++ events) live
   pub same : (end_of live).endpoint.extras ≡ extras
-  pub output : Output stores before now start (made ++ Hears (frames_of events) keeps clock ∷ []) live teller first last
+  pub output : Output stores before now start (made ++ Hears (frames_of events) keeps clock ∷ []) live run_log first last
 
 -- a piece was heard in part, or the node was given up there; and then the run stopped
 pub record PieceStopped {S : Type 0} (stores : Stores S) (before now : S) (end : RunEnd) (extras : List (ℕ × ℕ)) (taken : List ℕ) (given : List Event) (piece : List ℕ) (start : Node) (made : List LiveCall) (first last : Outside) : Type 0 where
@@ -136,10 +136,10 @@ pub record PieceStopped {S : Type 0} (stores : Stores S) (before now : S) (end :
   pub stopped : TurnStopped stores before now end extras taken given start made turn first last
 
 -- a call that is due was made, or the run stopped in it
-pub record CallDone {S : Type 0} (stores : Stores S) (before now : S) (start : Node) (made : List LiveCall) (call : ℕ → LiveCall) (live : LiveNode) (teller : Teller) (first last : Outside) : Type 0 where
+pub record CallDone {S : Type 0} (stores : Stores S) (before now : S) (start : Node) (made : List LiveCall) (call : ℕ → LiveCall) (live : LiveNode) (run_log : RunLog) (first last : Outside) : Type 0 where
   pub at : ℕ
   pub timed : IsTime first.time at
-  pub output : Output stores before now start (made ++ call at ∷ []) live teller first last
+  pub output : Output stores before now start (made ++ call at ∷ []) live run_log first last
 
 pub record CallStopped {S : Type 0} (stores : Stores S) (before now : S) (end : RunEnd) (start : Node) (made : List LiveCall) (call : ℕ → LiveCall) (first last : Outside) : Type 0 where
   pub at : ℕ
@@ -147,12 +147,12 @@ pub record CallStopped {S : Type 0} (stores : Stores S) (before now : S) (end : 
   pub stopped : CallsStopped stores before now end start made (call at ∷ []) first last
 
 -- all calls of a wait were made, or some of them
-pub record WaitDone {S : Type 0} (stores : Stores S) (before now : S) (start : Node) (made : List LiveCall) (live : LiveNode) (teller : Teller) (first last : Outside) : Type 0 where
+pub record WaitDone {S : Type 0} (stores : Stores S) (before now : S) (start : Node) (made : List LiveCall) (live : LiveNode) (run_log : RunLog) (first last : Outside) : Type 0 where
   pub tick : ℕ
   pub beat : ℕ
   pub sim : ℕ
   pub timed : AreTimed first.time (Ticks tick ∷ Beats beat ∷ Flies sim ∷ [])
-  pub output : Output stores before now start (made ++ Ticks tick ∷ Beats beat ∷ Flies sim ∷ []) live teller first last
+  pub output : Output stores before now start (made ++ Ticks tick ∷ Beats beat ∷ Flies sim ∷ []) live run_log first last
 
 pub record WaitStopped {S : Type 0} (stores : Stores S) (before now : S) (end : RunEnd) (start : Node) (made : List LiveCall) (first last : Outside) : Type 0 where
   pub tick : ℕ
@@ -162,18 +162,18 @@ pub record WaitStopped {S : Type 0} (stores : Stores S) (before now : S) (end : 
   pub stopped : CallsStopped stores before now end start made (Ticks tick ∷ Beats beat ∷ Flies sim ∷ []) first last
 
 -- a turn was taken, or the port has ended
-pub record TurnTaken {S : Type 0} (stores : Stores S) (before now : S) (start : Node) (opening : List LiveCall) (turns : List Turn) (live : LiveNode) (teller : Teller) (first last : Outside) : Type 0 where
+pub record TurnTaken {S : Type 0} (stores : Stores S) (before now : S) (start : Node) (opening : List LiveCall) (turns : List Turn) (live : LiveNode) (run_log : RunLog) (first last : Outside) : Type 0 where
   pub turn : Turn
-  pub between : Between stores before now start opening (turns ++ turn ∷ []) [] live teller first last
+  pub between : Between stores before now start opening (turns ++ turn ∷ []) [] live run_log first last
 
-pub record PortEnded {S : Type 0} (stores : Stores S) (before now : S) (start : Node) (opening : List LiveCall) (turns : List Turn) (rests : List Rest) (live : LiveNode) (teller : Teller) (first last : Outside) : Type 0 where
-  pub between : Between stores before now start opening turns rests live teller first last
+pub record PortEnded {S : Type 0} (stores : Stores S) (before now : S) (start : Node) (opening : List LiveCall) (turns : List Turn) (rests : List Rest) (live : LiveNode) (run_log : RunLog) (first last : Outside) : Type 0 where
+  pub between : Between stores before now start opening turns rests live run_log first last
   pub ended : last.link.ended ≡ true
   pub spent : IsSpent last.link.left
 
-abbrev pub Turned : Bool → {S : Type 0} → Stores S → (before now : S) → Node → List LiveCall → List Turn → LiveNode → Teller → Outside → Outside → Type 0
-Turned true stores before now start opening turns live teller first last = TurnTaken stores before now start opening turns live teller first last
-Turned false stores before now start opening turns live teller first last = PortEnded stores before now start opening turns [] live teller first last
+abbrev pub Turned : Bool → {S : Type 0} → Stores S → (before now : S) → Node → List LiveCall → List Turn → LiveNode → RunLog → Outside → Outside → Type 0
+Turned true stores before now start opening turns live run_log first last = TurnTaken stores before now start opening turns live run_log first last
+Turned false stores before now start opening turns live run_log first last = PortEnded stores before now start opening turns [] live run_log first last
 
 -- a run stopped in a turn more than these, or at a read after them
 pub record TurnCut {S : Type 0} (stores : Stores S) (before now : S) (end : RunEnd) (start : Node) (opening : List LiveCall) (turns : List Turn) (first last : Outside) : Type 0 where
@@ -185,20 +185,20 @@ TurnStops stores before now end start opening turns first last =
     TurnCut stores before now end start opening turns first last ⊎ RunAt stores before now start (Some end) opening turns [] first last
 
 -- so many turns were taken
-pub record TurnsTaken {S : Type 0} (stores : Stores S) (before now : S) (start : Node) (opening : List LiveCall) (count : ℕ) (live : LiveNode) (teller : Teller) (first last : Outside) : Type 0 where
+pub record TurnsTaken {S : Type 0} (stores : Stores S) (before now : S) (start : Node) (opening : List LiveCall) (count : ℕ) (live : LiveNode) (run_log : RunLog) (first last : Outside) : Type 0 where
   pub turns : List Turn
   pub number : length turns ≡ count
-  pub between : Between stores before now start opening turns [] live teller first last
+  pub between : Between stores before now start opening turns [] live run_log first last
 
 -- the port has ended at a later read
-pub record TurnsEnded {S : Type 0} (stores : Stores S) (before now : S) (start : Node) (opening : List LiveCall) (count : ℕ) (live : LiveNode) (teller : Teller) (first last : Outside) : Type 0 where
+pub record TurnsEnded {S : Type 0} (stores : Stores S) (before now : S) (start : Node) (opening : List LiveCall) (count : ℕ) (live : LiveNode) (run_log : RunLog) (first last : Outside) : Type 0 where
   pub turns : List Turn
   pub number : length turns < count
-  pub ended : PortEnded stores before now start opening turns [] live teller first last
+  pub ended : PortEnded stores before now start opening turns [] live run_log first last
 
-abbrev pub TurnsRan : Bool → {S : Type 0} → Stores S → (before now : S) → Node → List LiveCall → ℕ → LiveNode → Teller → Outside → Outside → Type 0
-TurnsRan true stores before now start opening count live teller first last = TurnsTaken stores before now start opening count live teller first last
-TurnsRan false stores before now start opening count live teller first last = TurnsEnded stores before now start opening count live teller first last
+abbrev pub TurnsRan : Bool → {S : Type 0} → Stores S → (before now : S) → Node → List LiveCall → ℕ → LiveNode → RunLog → Outside → Outside → Type 0
+TurnsRan true stores before now start opening count live run_log first last = TurnsTaken stores before now start opening count live run_log first last
+TurnsRan false stores before now start opening count live run_log first last = TurnsEnded stores before now start opening count live run_log first last
 
 -- or the run stopped within them
 pub record TurnsStopped {S : Type 0} (stores : Stores S) (before now : S) (end : RunEnd) (start : Node) (opening : List LiveCall) (count : ℕ) (first last : Outside) : Type 0 where
@@ -207,7 +207,7 @@ pub record TurnsStopped {S : Type 0} (stores : Stores S) (before now : S) (end :
   pub run : RunAt stores before now start (Some end) opening turns [] first last
 
 -- before the first call
-pub record Opened {S : Type 0} (stores : Stores S) (before now : S) (start : Node) (live : LiveNode) (teller : Teller) (first : Outside) : Type 0 where
-  pub output : Output stores before now start [] live teller first first
+pub record Opened {S : Type 0} (stores : Stores S) (before now : S) (start : Node) (live : LiveNode) (run_log : RunLog) (first : Outside) : Type 0 where
+  pub output : Output stores before now start [] live run_log first first
   pub heard : HasHeard [] [] live
   pub same : (end_of live).endpoint.extras ≡ extras_at start

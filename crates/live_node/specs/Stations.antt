@@ -18,8 +18,8 @@ use Rattle.run_status.specs.declared.live_ends.LiveEnd.TheVariants.{RefusedWith,
 use Rattle.run_status.specs.declared.run_ends.RunEnd.{RunEnd}
 use Rattle.run_status.specs.declared.run_ends.RunEnd.TheVariants.{Stopped, WriteFault, NoMemory, Live}
 use Rattle.live_node.specs.declared.stations.StationPlan.{StationPlan}
-use Rattle.live_node.specs.declared.tellers.Ending.{Ending}
-use Rattle.live_node.specs.declared.tellers.Ending.TheVariants.{Done, Refused, Unanswered}
+use Rattle.live_node.specs.declared.run_log.Ending.{Ending}
+use Rattle.live_node.specs.declared.run_log.Ending.TheVariants.{Done, Refused, Unanswered}
 use Rattle.live_node.specs.Calls.{LiveCall, Beats, Obeys, calls_do, ticks_over, IsTime}
 use Rattle.live_node.specs.Turns.{Turn, Rest, calls_of, last_calls}
 use Rattle.live_node.specs.Texts.{ending_over}

@@ -9,9 +9,9 @@ use Rattle.mav_nodes.specs.declared.news.FileEnd.TheVariants.{Done as Gives, Ref
 use Rattle.mav_nodes.specs.News.{NodeEvent, Sends, Ends, Ends_command, Gives_param, Ends_params, Ends_file, Shown, Shows_sent}
 use Rattle.fleet_report.specs.Events.{events_text}
 use Rattle.node_reports.specs.Reporting.{reported_by}
-use Rattle.live_node.specs.declared.tellers.Ending.{Ending}
-use Rattle.live_node.specs.declared.tellers.Ending.TheVariants.{Done, Refused, Unanswered}
-use Rattle.live_node.specs.declared.tellers.Teller.{Teller}
+use Rattle.live_node.specs.declared.run_log.Ending.{Ending}
+use Rattle.live_node.specs.declared.run_log.Ending.TheVariants.{Done, Refused, Unanswered}
+use Rattle.live_node.specs.declared.run_log.RunLog.{RunLog}
 
 -- the bytes of the frame that was sent, if one was
 abbrev pub frame_bytes : Shown → List ℕ
@@ -78,6 +78,6 @@ abbrev pub ending_over : Option Ending → List NodeEvent → Option Ending
 ending_over before [] = before
 ending_over before (event ∷ events) = ending_over (first_of before (ending_in event)) events
 
--- what a teller has told after these events
-abbrev pub tells : Teller → List NodeEvent → Teller
+-- what a run_log has told after these events
+abbrev pub tells : RunLog → List NodeEvent → RunLog
 tells t events = record t { sent = count_over t.sent events; ending = ending_over t.ending events }

@@ -7,7 +7,7 @@ use Rattle.node_reports.specs.Nodes.{Node}
 use Rattle.run_status.specs.declared.run_ends.RunEnd.{RunEnd}
 use Rattle.live_node.specs.declared.nodes.LiveNode.{LiveNode}
 use Rattle.live_node.specs.declared.stations.StationPlan.{StationPlan}
-use Rattle.live_node.specs.declared.tellers.Teller.{Teller}
+use Rattle.live_node.specs.declared.run_log.RunLog.{RunLog}
 use Rattle.live_node.specs.Calls.{LiveCall, Obeys, IsTime, ticks_over}
 use Rattle.live_node.specs.Turns.{Turn, Rest}
 use Rattle.live_node.specs.Texts.{ending_over}
@@ -17,11 +17,11 @@ use Rattle.live_node.specs.Progress.{Output, Between, CallsStopped, PortEnded}
 use Rattle.live_node.specs.Stations.{verdict, Awaited, HasEnded, StationEnds}
 
 -- the order was followed by a node that was so
-pub record OrderDone {S : Type 0} (stores : Stores S) (before now : S) (start : Node) (made : List LiveCall) (was : Node) (order : Order) (live : LiveNode) (teller : Teller) (first last : Outside) : Type 0 where
+pub record OrderDone {S : Type 0} (stores : Stores S) (before now : S) (start : Node) (made : List LiveCall) (was : Node) (order : Order) (live : LiveNode) (run_log : RunLog) (first last : Outside) : Type 0 where
   pub at : ℕ
   pub timed : IsTime first.time at
   pub accepted : node_refuses was order ≡ false
-  pub output : Output stores before now start (made ++ Obeys order at ∷ []) live teller first last
+  pub output : Output stores before now start (made ++ Obeys order at ∷ []) live run_log first last
 
 -- or the run stopped at it
 pub record OrderStopped {S : Type 0} (stores : Stores S) (before now : S) (end : RunEnd) (start : Node) (made : List LiveCall) (was : Node) (order : Order) (first last : Outside) : Type 0 where
@@ -32,23 +32,23 @@ pub record OrderStopped {S : Type 0} (stores : Stores S) (before now : S) (end :
   pub accepted : 1 ≤ length stopped.more → node_refuses was order ≡ false
 
 -- the turns of a wait were taken: up to the verdict, or all of them
-pub record WatchDone {S : Type 0} (stores : Stores S) (before now : S) (plan : StationPlan) (start : Node) (opening : List LiveCall) (live : LiveNode) (teller : Teller) (first last : Outside) : Type 0 where
+pub record WatchDone {S : Type 0} (stores : Stores S) (before now : S) (plan : StationPlan) (start : Node) (opening : List LiveCall) (live : LiveNode) (run_log : RunLog) (first last : Outside) : Type 0 where
   pub turns : List Turn
-  pub between : Between stores before now start opening turns [] live teller first last
+  pub between : Between stores before now start opening turns [] live run_log first last
   pub awaited : Awaited plan.ticks start opening turns []
   pub within : length turns ≤ plan.turns
-  pub number : verdict plan.ticks teller.ticks teller.ending ≡ None → length turns ≡ plan.turns
+  pub number : verdict plan.ticks run_log.ticks run_log.ending ≡ None → length turns ≡ plan.turns
 
 -- the port has ended before
-pub record WatchEnded {S : Type 0} (stores : Stores S) (before now : S) (plan : StationPlan) (start : Node) (opening : List LiveCall) (live : LiveNode) (teller : Teller) (first last : Outside) : Type 0 where
+pub record WatchEnded {S : Type 0} (stores : Stores S) (before now : S) (plan : StationPlan) (start : Node) (opening : List LiveCall) (live : LiveNode) (run_log : RunLog) (first last : Outside) : Type 0 where
   pub turns : List Turn
   pub within : length turns ≤ plan.turns
-  pub ended : PortEnded stores before now start opening turns [] live teller first last
+  pub ended : PortEnded stores before now start opening turns [] live run_log first last
   pub awaited : Awaited plan.ticks start opening turns []
 
-abbrev pub Watched : Bool → {S : Type 0} → Stores S → (before now : S) → StationPlan → Node → List LiveCall → LiveNode → Teller → (first last : Outside) → Type 0
-Watched true stores before now plan start opening live teller first last = WatchDone stores before now plan start opening live teller first last
-Watched false stores before now plan start opening live teller first last = WatchEnded stores before now plan start opening live teller first last
+abbrev pub Watched : Bool → {S : Type 0} → Stores S → (before now : S) → StationPlan → Node → List LiveCall → LiveNode → RunLog → (first last : Outside) → Type 0
+Watched true stores before now plan start opening live run_log first last = WatchDone stores before now plan start opening live run_log first last
+Watched false stores before now plan start opening live run_log first last = WatchEnded stores before now plan start opening live run_log first last
 
 -- or the run stopped
 pub record WatchStopped {S : Type 0} (stores : Stores S) (before now : S) (end : RunEnd) (plan : StationPlan) (start : Node) (opening : List LiveCall) (first last : Outside) : Type 0 where
@@ -58,11 +58,11 @@ pub record WatchStopped {S : Type 0} (stores : Stores S) (before now : S) (end :
   pub awaited : Awaited plan.ticks start opening turns []
 
 -- time passed after the port's end, up to the verdict
-pub record Outlasted {S : Type 0} (stores : Stores S) (before now : S) (most : ℕ) (start : Node) (opening : List LiveCall) (turns : List Turn) (live : LiveNode) (teller : Teller) (first last : Outside) : Type 0 where
+pub record Outlasted {S : Type 0} (stores : Stores S) (before now : S) (most : ℕ) (start : Node) (opening : List LiveCall) (turns : List Turn) (live : LiveNode) (run_log : RunLog) (first last : Outside) : Type 0 where
   pub rests : List Rest
-  pub ended : PortEnded stores before now start opening turns rests live teller first last
+  pub ended : PortEnded stores before now start opening turns rests live run_log first last
   pub awaited : Awaited most start opening turns rests
-  pub over : verdict most teller.ticks teller.ending ≡ None → ⊥
+  pub over : verdict most run_log.ticks run_log.ending ≡ None → ⊥
 
 -- or the run stopped
 pub record OutlastStopped {S : Type 0} (stores : Stores S) (before now : S) (end : RunEnd) (most : ℕ) (start : Node) (opening : List LiveCall) (turns : List Turn) (first last : Outside) : Type 0 where

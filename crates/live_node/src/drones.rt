@@ -10,7 +10,7 @@ ghost use Rattle.live_node.specs.Progress.{Between, TurnsStopped, TurnsRan, Open
 ghost use Rattle.live_node.specs.Drones.{DroneLived, DroneRuns, NewDroneRuns, IsDroneEnd, start_end};
 
 use crate::nodes::{Due, LiveNode};
-use crate::tellers::Teller;
+use crate::run_log::RunLog;
 use crate::turns::{PIECE_BYTES, call, turn};
 use mav_links::Link;
 use mav_names::drone_name;
@@ -42,22 +42,22 @@ fn start_end(fault: StartFault) -> RunEnd
 // At most so many turns. Returns whether the link hasn't ended after them.
 fn run_turns<L: Link, K: Sink, C: Clock, S: Keeper>(
     live: &mut LiveNode,
-    teller: &mut Teller,
+    run_log: &mut RunLog,
     turns: u64,
     link: &mut L,
     out: &mut K,
     clock: &mut C,
     keeper: &mut S,
 ) -> Result<bool, RunEnd>
-    ensures did { (before : S) (start : Node) (opening : List LiveCall) (first : Outside) → Between (stores_of S.faults S.is_infallible S.contents) before keeper.old start opening [] [] live.old teller.old first (outside (L.state link.old) (K.sent out.old) (C.always clock.old))
+    ensures did { (before : S) (start : Node) (opening : List LiveCall) (first : Outside) → Between (stores_of S.faults S.is_infallible S.contents) before keeper.old start opening [] [] live.old run_log.old first (outside (L.state link.old) (K.sent out.old) (C.always clock.old))
         → MatchResult result
-        (λ goes_on. TurnsRan goes_on (stores_of S.faults S.is_infallible S.contents) before keeper.new start opening turns live.new teller.new first (outside (L.state link.new) (K.sent out.new) (C.always clock.new)))
+        (λ goes_on. TurnsRan goes_on (stores_of S.faults S.is_infallible S.contents) before keeper.new start opening turns live.new run_log.new first (outside (L.state link.new) (K.sent out.new) (C.always clock.new)))
         (λ end. TurnsStopped (stores_of S.faults S.is_infallible S.contents) before keeper.new end start opening turns first (outside (L.state link.new) (K.sent out.new) (C.always clock.new))) }
     ensures ends { Ends IsRunEnd result (outside (L.state link.old) (K.sent out.old) (C.always clock.old)) (outside (L.state link.new) (K.sent out.new) (C.always clock.new)) (K.faults out.old) (K.faults out.new) }
 {
     let mut buf = [0u8; PIECE_BYTES];
     'turns: for _at in 0..turns {
-        match turn(live, teller, &mut buf, link, out, clock, keeper) {
+        match turn(live, run_log, &mut buf, link, out, clock, keeper) {
             Ok(true) => {}
             Ok(false) => return Ok(false),
             Err(end) => return Err(end),
@@ -69,22 +69,22 @@ fn run_turns<L: Link, K: Sink, C: Clock, S: Keeper>(
 // The first heartbeat, and the turns.
 fn run_live<L: Link, K: Sink, C: Clock, S: Keeper>(
     live: &mut LiveNode,
-    teller: &mut Teller,
+    run_log: &mut RunLog,
     turns: u64,
     link: &mut L,
     out: &mut K,
     clock: &mut C,
     keeper: &mut S,
 ) -> Result<(), RunEnd>
-    ensures ran { (before : S) (start : DroneSide) → Opened (stores_of S.faults S.is_infallible S.contents) before keeper.old (StateDrone start) live.old teller.old (outside (L.state link.old) (K.sent out.old) (C.always clock.old))
+    ensures ran { (before : S) (start : DroneSide) → Opened (stores_of S.faults S.is_infallible S.contents) before keeper.old (StateDrone start) live.old run_log.old (outside (L.state link.old) (K.sent out.old) (C.always clock.old))
         → DroneLived (stores_of S.faults S.is_infallible S.contents) before keeper.new turns start (result_err result) (outside (L.state link.old) (K.sent out.old) (C.always clock.old)) (outside (L.state link.new) (K.sent out.new) (C.always clock.new)) }
     ensures ends { Ends (IsDroneEnd turns) result (outside (L.state link.old) (K.sent out.old) (C.always clock.old)) (outside (L.state link.new) (K.sent out.new) (C.always clock.new)) (K.faults out.old) (K.faults out.new) }
 {
-    match call(live, teller, Due::Heartbeat, link, out, clock, keeper) {
+    match call(live, run_log, Due::Heartbeat, link, out, clock, keeper) {
         Ok(()) => {}
         Err(end) => return Err(end),
     }
-    match run_turns(live, teller, turns, link, out, clock, keeper) {
+    match run_turns(live, run_log, turns, link, out, clock, keeper) {
         Ok(true) => Err(RunEnd::Live(LiveEnd::PortTurns(turns))),
         Ok(false) => Ok(()),
         Err(end) => Err(end),
@@ -106,9 +106,17 @@ pub fn run_drone<L: Link, K: Sink, C: Clock, S: Keeper>(
 {
     match DroneNode::start(alloc, key, plan.sys, 0, 0, keeper) {
         Ok(drone) => {
-            let mut teller = Teller::new(alloc, drone_name(plan.sys));
+            let mut run_log = RunLog::new(alloc, drone_name(plan.sys));
             let mut live = LiveNode::Drone(drone);
-            let ended = run_live(&mut live, &mut teller, plan.turns, link, out, clock, keeper);
+            let ended = run_live(
+                &mut live,
+                &mut run_log,
+                plan.turns,
+                link,
+                out,
+                clock,
+                keeper,
+            );
             live.discard();
             ended
         }

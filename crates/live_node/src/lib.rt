@@ -14,20 +14,20 @@ mod drones;
 mod ends;
 mod nodes;
 mod order_words;
+mod run_log;
 mod sending;
 mod station_asked;
 mod stations;
-mod tellers;
 mod telling;
 mod turns;
 
 pub use drone_asked::{Store, run_asked_drone};
 pub use drones::{DronePlan, run_drone, run_new_drone};
 pub use nodes::LiveNode;
+pub use run_log::{Ending, RunLog};
 pub use station_asked::run_asked_station;
 pub use stations::{StationPlan, run_station};
 use std::alloc::AllocError;
-pub use tellers::{Ending, Teller};
 
 /// There was no memory.
 pub type NoMemory = AllocError;

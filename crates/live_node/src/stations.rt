@@ -16,7 +16,7 @@ ghost use Rattle.live_node.specs.Stations.{StationLived, StationRuns, IsOrderEnd
 
 use crate::ends::order_end;
 use crate::nodes::{Due, LiveNode};
-use crate::tellers::Teller;
+use crate::run_log::RunLog;
 use crate::turns::{PIECE_BYTES, call, turn, wait};
 use field_layout::Label;
 use mav_links::Link;
@@ -41,24 +41,24 @@ pub struct StationPlan {
 // The order is given, and what it tells is told.
 fn obey<L: Link, K: Sink, C: Clock, S: Keeper>(
     live: &mut LiveNode,
-    teller: &mut Teller,
+    run_log: &mut RunLog,
     order: Order,
     link: &mut L,
     out: &mut K,
     clock: &mut C,
     keeper: &S,
 ) -> Result<(), RunEnd>
-    ensures did { (before : S) (start : Node) (made : List LiveCall) (first : Outside) → (o : Output (stores_of S.faults S.is_infallible S.contents) before keeper.now start made live.old teller.old first (outside (L.state link.old) (K.sent out.old) (C.always clock.old)))
+    ensures did { (before : S) (start : Node) (made : List LiveCall) (first : Outside) → (o : Output (stores_of S.faults S.is_infallible S.contents) before keeper.now start made live.old run_log.old first (outside (L.state link.old) (K.sent out.old) (C.always clock.old)))
         → MatchResult result
-        (λ _. OrderDone (stores_of S.faults S.is_infallible S.contents) before keeper.now start made o.node order live.new teller.new first (outside (L.state link.new) (K.sent out.new) (C.always clock.new)))
+        (λ _. OrderDone (stores_of S.faults S.is_infallible S.contents) before keeper.now start made o.node order live.new run_log.new first (outside (L.state link.new) (K.sent out.new) (C.always clock.new)))
         (λ end. OrderStopped (stores_of S.faults S.is_infallible S.contents) before keeper.now end start made o.node order first (outside (L.state link.new) (K.sent out.new) (C.always clock.new))) }
     ensures unread { SameRead (L.state link.old) (L.state link.new) }
     ensures reader { OnOk result (reader_of (end_of live.new).endpoint ≡ reader_of (end_of live.old).endpoint) }
     ensures ends { Ends IsOrderEnd result (outside (L.state link.old) (K.sent out.old) (C.always clock.old)) (outside (L.state link.new) (K.sent out.new) (C.always clock.new)) (K.faults out.old) (K.faults out.new) }
 {
     let now = clock.now();
-    match live.order(teller.alloc, order, now) {
-        Ok(news) => teller.tell(live.params(), link, out, &news),
+    match live.order(run_log.alloc, order, now) {
+        Ok(news) => run_log.tell(live.params(), link, out, &news),
         Err(fault) => Err(order_end(fault)),
     }
 }
@@ -66,25 +66,25 @@ fn obey<L: Link, K: Sink, C: Clock, S: Keeper>(
 // Turns until the verdict, or until no more reads may be made. Returns whether the link hasn't ended.
 fn watch<L: Link, K: Sink, C: Clock, S: Keeper>(
     live: &mut LiveNode,
-    teller: &mut Teller,
+    run_log: &mut RunLog,
     plan: StationPlan,
     link: &mut L,
     out: &mut K,
     clock: &mut C,
     keeper: &mut S,
 ) -> Result<bool, RunEnd>
-    ensures did { (before : S) (start : Node) (opening : List LiveCall) (first : Outside) → Between (stores_of S.faults S.is_infallible S.contents) before keeper.old start opening [] [] live.old teller.old first (outside (L.state link.old) (K.sent out.old) (C.always clock.old))
+    ensures did { (before : S) (start : Node) (opening : List LiveCall) (first : Outside) → Between (stores_of S.faults S.is_infallible S.contents) before keeper.old start opening [] [] live.old run_log.old first (outside (L.state link.old) (K.sent out.old) (C.always clock.old))
         → MatchResult result
-        (λ goes_on. Watched goes_on (stores_of S.faults S.is_infallible S.contents) before keeper.new plan start opening live.new teller.new first (outside (L.state link.new) (K.sent out.new) (C.always clock.new)))
+        (λ goes_on. Watched goes_on (stores_of S.faults S.is_infallible S.contents) before keeper.new plan start opening live.new run_log.new first (outside (L.state link.new) (K.sent out.new) (C.always clock.new)))
         (λ end. WatchStopped (stores_of S.faults S.is_infallible S.contents) before keeper.new end plan start opening first (outside (L.state link.new) (K.sent out.new) (C.always clock.new))) }
     ensures ends { Ends IsRunEnd result (outside (L.state link.old) (K.sent out.old) (C.always clock.old)) (outside (L.state link.new) (K.sent out.new) (C.always clock.new)) (K.faults out.old) (K.faults out.new) }
 {
     let mut buf = [0u8; PIECE_BYTES];
     'turns: for _at in 0..plan.turns {
-        if teller.is_over(plan.ticks) {
+        if run_log.is_over(plan.ticks) {
             return Ok(true);
         }
-        match turn(live, teller, &mut buf, link, out, clock, keeper) {
+        match turn(live, run_log, &mut buf, link, out, clock, keeper) {
             Ok(true) => {}
             Ok(false) => return Ok(false),
             Err(end) => return Err(end),
@@ -96,24 +96,24 @@ fn watch<L: Link, K: Sink, C: Clock, S: Keeper>(
 // The link has ended: time passes until the verdict.
 fn outlast<L: Link, K: Sink, C: Clock, S: Keeper>(
     live: &mut LiveNode,
-    teller: &mut Teller,
+    run_log: &mut RunLog,
     most: u64,
     link: &mut L,
     out: &mut K,
     clock: &mut C,
     keeper: &mut S,
 ) -> Result<(), RunEnd>
-    ensures did { (before : S) (start : Node) (opening : List LiveCall) (turns : List Turn) (first : Outside) → PortEnded (stores_of S.faults S.is_infallible S.contents) before keeper.old start opening turns [] live.old teller.old first (outside (L.state link.old) (K.sent out.old) (C.always clock.old)) → Awaited most start opening turns []
+    ensures did { (before : S) (start : Node) (opening : List LiveCall) (turns : List Turn) (first : Outside) → PortEnded (stores_of S.faults S.is_infallible S.contents) before keeper.old start opening turns [] live.old run_log.old first (outside (L.state link.old) (K.sent out.old) (C.always clock.old)) → Awaited most start opening turns []
         → MatchResult result
-        (λ _. Outlasted (stores_of S.faults S.is_infallible S.contents) before keeper.new most start opening turns live.new teller.new first (outside (L.state link.new) (K.sent out.new) (C.always clock.new)))
+        (λ _. Outlasted (stores_of S.faults S.is_infallible S.contents) before keeper.new most start opening turns live.new run_log.new first (outside (L.state link.new) (K.sent out.new) (C.always clock.new)))
         (λ end. OutlastStopped (stores_of S.faults S.is_infallible S.contents) before keeper.new end most start opening turns first (outside (L.state link.new) (K.sent out.new) (C.always clock.new))) }
     ensures ends { Ends IsRunEnd result (outside (L.state link.old) (K.sent out.old) (C.always clock.old)) (outside (L.state link.new) (K.sent out.new) (C.always clock.new)) (K.faults out.old) (K.faults out.new) }
 {
     'ticks: for _at in 0..most {
-        if teller.is_over(most) {
+        if run_log.is_over(most) {
             return Ok(());
         }
-        match wait(live, teller, link, out, clock, keeper) {
+        match wait(live, run_log, link, out, clock, keeper) {
             Ok(()) => {}
             Err(end) => return Err(end),
         }
@@ -122,10 +122,10 @@ fn outlast<L: Link, K: Sink, C: Clock, S: Keeper>(
 }
 
 // The verdict; without one all turns were taken.
-fn judge(teller: &mut Teller, plan: StationPlan) -> Result<Label, RunEnd>
-    ensures { result ≡ judged plan (verdict plan.ticks teller.old.ticks teller.old.ending) }
+fn judge(run_log: &mut RunLog, plan: StationPlan) -> Result<Label, RunEnd>
+    ensures { result ≡ judged plan (verdict plan.ticks run_log.old.ticks run_log.old.ending) }
 {
-    match teller.verdict(plan.ticks) {
+    match run_log.verdict(plan.ticks) {
         Some(said) => said,
         None => Err(RunEnd::Live(LiveEnd::PortTurns(plan.turns))),
     }
@@ -134,21 +134,21 @@ fn judge(teller: &mut Teller, plan: StationPlan) -> Result<Label, RunEnd>
 // Waits for the end of the order, and returns the bytes that it gave.
 fn wait_for<L: Link, K: Sink, C: Clock, S: Keeper>(
     live: &mut LiveNode,
-    teller: &mut Teller,
+    run_log: &mut RunLog,
     plan: StationPlan,
     link: &mut L,
     out: &mut K,
     clock: &mut C,
     keeper: &mut S,
 ) -> Result<Label, RunEnd>
-    ensures waited { (before : S) (start : Node) (opening : List LiveCall) (first : Outside) → Between (stores_of S.faults S.is_infallible S.contents) before keeper.old start opening [] [] live.old teller.old first (outside (L.state link.old) (K.sent out.old) (C.always clock.old))
+    ensures waited { (before : S) (start : Node) (opening : List LiveCall) (first : Outside) → Between (stores_of S.faults S.is_infallible S.contents) before keeper.old start opening [] [] live.old run_log.old first (outside (L.state link.old) (K.sent out.old) (C.always clock.old))
         → WaitedFor (stores_of S.faults S.is_infallible S.contents) before keeper.new plan start opening result first (outside (L.state link.new) (K.sent out.new) (C.always clock.new)) }
     ensures ends { Ends IsWaitedEnd result (outside (L.state link.old) (K.sent out.old) (C.always clock.old)) (outside (L.state link.new) (K.sent out.new) (C.always clock.new)) (K.faults out.old) (K.faults out.new) }
 {
-    match watch(live, teller, plan, link, out, clock, keeper) {
-        Ok(true) => judge(teller, plan),
-        Ok(false) => match outlast(live, teller, plan.ticks, link, out, clock, keeper) {
-            Ok(()) => judge(teller, plan),
+    match watch(live, run_log, plan, link, out, clock, keeper) {
+        Ok(true) => judge(run_log, plan),
+        Ok(false) => match outlast(live, run_log, plan.ticks, link, out, clock, keeper) {
+            Ok(()) => judge(run_log, plan),
             Err(end) => Err(end),
         },
         Err(end) => Err(end),
@@ -158,7 +158,7 @@ fn wait_for<L: Link, K: Sink, C: Clock, S: Keeper>(
 // The heartbeat, the order, and the wait.
 fn run_live<L: Link, K: Sink, C: Clock, S: Keeper>(
     live: &mut LiveNode,
-    teller: &mut Teller,
+    run_log: &mut RunLog,
     plan: StationPlan,
     order: Order,
     link: &mut L,
@@ -166,16 +166,16 @@ fn run_live<L: Link, K: Sink, C: Clock, S: Keeper>(
     clock: &mut C,
     keeper: &mut S,
 ) -> Result<Label, RunEnd>
-    ensures ran { (before : S) (start : Node) → Opened (stores_of S.faults S.is_infallible S.contents) before keeper.old start live.old teller.old (outside (L.state link.old) (K.sent out.old) (C.always clock.old))
+    ensures ran { (before : S) (start : Node) → Opened (stores_of S.faults S.is_infallible S.contents) before keeper.old start live.old run_log.old (outside (L.state link.old) (K.sent out.old) (C.always clock.old))
         → StationLived (stores_of S.faults S.is_infallible S.contents) before keeper.new plan order start result (outside (L.state link.old) (K.sent out.old) (C.always clock.old)) (outside (L.state link.new) (K.sent out.new) (C.always clock.new)) }
     ensures ends { Ends (λ end. (end ≡ RunEnd.Live LiveEnd.StoreFault) ⊎ IsStationEnd end) result (outside (L.state link.old) (K.sent out.old) (C.always clock.old)) (outside (L.state link.new) (K.sent out.new) (C.always clock.new)) (K.faults out.old) (K.faults out.new) }
 {
-    match call(live, teller, Due::Heartbeat, link, out, clock, keeper) {
+    match call(live, run_log, Due::Heartbeat, link, out, clock, keeper) {
         Ok(()) => {}
         Err(end) => return Err(end),
     }
-    match obey(live, teller, order, link, out, clock, keeper) {
-        Ok(()) => wait_for(live, teller, plan, link, out, clock, keeper),
+    match obey(live, run_log, order, link, out, clock, keeper) {
+        Ok(()) => wait_for(live, run_log, plan, link, out, clock, keeper),
         Err(end) => Err(end),
     }
 }
@@ -223,11 +223,11 @@ pub fn run_station<L: Link, K: Sink, C: Clock>(
         link: 0,
     };
     let mut live = LiveNode::Station(StationNode::new(alloc, key, me, boot)?);
-    let mut teller = Teller::new(alloc, node_of(me));
+    let mut run_log = RunLog::new(alloc, node_of(me));
     let mut keeper = MemKeeper::new(alloc, Vec::new(alloc), Vec::new(alloc));
     let ended = run_live(
         &mut live,
-        &mut teller,
+        &mut run_log,
         plan,
         order,
         link,

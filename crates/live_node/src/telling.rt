@@ -4,14 +4,14 @@ ghost use Rattle.std.specs.Result.{result_err};
 ghost use Rattle.mav_nodes.specs.News.{NodeEvent, shown, said_by, events_of};
 ghost use Rattle.node_reports.specs.ParamLists.{HaveValues};
 ghost use Rattle.plan_upload.specs.Outcomes.{told_of};
-ghost use Rattle.live_node.specs.declared.tellers.Ending.TheVariants.{Done};
+ghost use Rattle.live_node.specs.declared.run_log.Ending.TheVariants.{Done};
 ghost use Rattle.live_node.specs.Texts.{count_with, ending_in, ending_told, ending_by_file, first_of};
 ghost use Rattle.live_node.specs.Ports.{FaultsBy, PrintFaults, SameRead, IsTellingEnd};
 ghost use Rattle.live_node.specs.Progress.{Said, Tells, TellsAll, Prints};
 
 use crate::NoMemory;
+use crate::run_log::{Ending, RunLog};
 use crate::sending::send_news;
-use crate::tellers::{Ending, Teller};
 use field_layout::Label;
 use fleet_report::Report;
 use mav_links::Link;
@@ -77,7 +77,7 @@ fn count_with(sent: usize, piece: &News) -> usize
     }
 }
 
-impl Teller {
+impl RunLog {
     // Keeps how the operation has ended with a piece of news, if it hadn't before.
     fn keep_ending(&mut self, piece: &News) -> Result<(), NoMemory>
         ensures { OnOk result ((event : NodeEvent) → said_by piece.now ≡ shown event

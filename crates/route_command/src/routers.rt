@@ -36,7 +36,7 @@ pub trait Router {
 
 /// On the caller's thread, whatever the plan says.
 #[derive(Drop)]
-pub struct Alone;
+pub struct SingleThread;
 
 /// With a thread for each port, unless the plan is for one thread.
 #[derive(Drop)]
@@ -44,7 +44,7 @@ pub struct Threaded<'a, R: Threads + Wait + Sync> {
     pub rt: &'a R,
 }
 
-impl Router for Alone {
+impl Router for SingleThread {
     ghost use Rattle.std.specs.Prelude.{⊤, true};
 
     ghost ready = { ⊤ };

@@ -23,7 +23,7 @@ use mav_links::Link;
 use mav_log::run_log;
 use mav_ports::{Clock, Sink, Source};
 use plan_store::Keeper;
-use route_command::{Alone, Router, Threaded, run_route};
+use route_command::{Router, SingleThread, Threaded, run_route};
 use run_status::{RunEnd, code_of, write_status};
 use std::alloc::Global;
 use std::sync::Wait;
@@ -202,5 +202,14 @@ pub fn run_alone<S: Source, K: Sink, C: Clock>(
         inputs.old inputs.new ports.old ports.new keepers.old keepers.new clock.old clock.new)
         (output_of K.faults K.sent out.old out.new) result }
 {
-    run_by(&Alone, alloc, words, inputs, out, clock, ports, keepers)
+    run_by(
+        &SingleThread,
+        alloc,
+        words,
+        inputs,
+        out,
+        clock,
+        ports,
+        keepers,
+    )
 }

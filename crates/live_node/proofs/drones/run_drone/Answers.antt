@@ -11,7 +11,7 @@ returns-in-Ok g c =
       runs = inl (record {
         start = b.node;
         starts = b.starts;
-        lived = c.run_live-ended.ensures.ran c.args.keeper.now b.node (opened _ _ _ _ _ _ _ _ _ _ b e.serves e.stays e.stream (c.new-teller.ensures.name ∙ c.drone_name.ensures) c.new-teller.ensures.sent c.new-teller.ensures.ending c.new-teller.ensures.ticks);
+        lived = c.run_live-ended.ensures.ran c.args.keeper.now b.node (opened _ _ _ _ _ _ _ _ _ _ b e.serves e.stays e.stream (c.new-run_log.ensures.name ∙ c.drone_name.ensures) c.new-run_log.ensures.sent c.new-run_log.ensures.ending c.new-run_log.ensures.ticks);
       });
       end = c.run_live-ended.ensures.ends.end;
       faults = c.run_live-ended.ensures.ends.faults;

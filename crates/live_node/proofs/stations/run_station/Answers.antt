@@ -13,7 +13,7 @@ pub returns : goal.returns
 returns g c =
     let boot = c.now-boot.result in
     let ran = c.run_live-ended.ensures.ran c.new-keeper.result (Station (new_station c.args.key (stream_asked c.args.plan) boot))
-    (opened_station mem_stores c.new-keeper.result c.new-keeper.result c.args.key (stream_asked c.args.plan) boot c.in_ok-new.field-0 c.new-teller.result _ _ _ (serves_same _ _ _) c.in_ok-new.ensures.new c.in_ok-new.ensures.stream (c.new-teller.ensures.name ∙ c.node_of.ensures) c.new-teller.ensures.sent c.new-teller.ensures.ending c.new-teller.ensures.ticks) in
+    (opened_station mem_stores c.new-keeper.result c.new-keeper.result c.args.key (stream_asked c.args.plan) boot c.in_ok-new.field-0 c.new-run_log.result _ _ _ (serves_same _ _ _) c.in_ok-new.ensures.new c.in_ok-new.ensures.stream (c.new-run_log.ensures.name ∙ c.node_of.ensures) c.new-run_log.ensures.sent c.new-run_log.ensures.ending c.new-run_log.ensures.ticks) in
     record {
       runs = inl (ran_station c.args.key c.args.plan c.args.order boot c.new-2.result.items c.new-3.result.items c.new-keeper.result c.run_live-ended.new.keeper c.run_live-ended.result _ _ _ _ _ _ _ c.new-2.ensures.items c.new-3.ensures.items c.new-keeper.ensures.start c.now-boot.ensures.stays c.now-boot.ensures.answer ran
           (c.give.ensures.gives _ _));

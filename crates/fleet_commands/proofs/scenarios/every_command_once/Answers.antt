@@ -1,5 +1,0 @@
-use Rattle.fleet_commands.proofs.Once as once
-use Rattle.fleet_commands.proofs.scenarios.every_command_once.Goals as goal
-
-pub returns : goal.returns
-returns c = once.every_once
