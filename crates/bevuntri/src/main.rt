@@ -20,8 +20,10 @@ const NO_MEMORY: u8 = 7;
 
 // The inputs that the words name.
 fn inputs_of(rt: &HostRuntime, wanted: &Wanted) -> Result<Inputs<StdSource<Reader>>, AllocError>
-    ensures main { IfOk result (λ i. reads_stdin i.main.reader ≡ names_stdin (option_map string_bytes wanted.now.main)) }
-    ensures defs { IfOk result (λ i. reads_stdin i.defs.reader ≡ names_stdin (option_map string_bytes wanted.now.defs)) }
+    ensures main { IfOk result (λ i. reads_stdin i.main.reader ≡ names_stdin
+        (option_map string_bytes wanted.now.main)) }
+    ensures defs { IfOk result (λ i. reads_stdin i.defs.reader ≡ names_stdin
+        (option_map string_bytes wanted.now.defs)) }
     ensures key { IfOk result (λ i. reads_stdin i.key.reader ≡ names_stdin (option_map string_bytes wanted.now.key)) }
 {
     Ok(Inputs {

@@ -1,4 +1,5 @@
-//! The program's command `fleet` alone, which takes fewer crates to prove: opens what its words name, and passes it to `run`.
+//! The program's command `fleet` alone, which takes fewer crates to prove: opens what its words name, and passes it to
+//! `run`.
 #![tactic(auto)]
 
 use command_line::{Command, Line, OptionName, WantedFault, read};

@@ -37,7 +37,8 @@ pub(crate) fn finish<T: LineTaker>(
     held: &HeldLine,
     taker: &mut T,
 ) -> Result<(), RunEnd>
-    ensures { Leads result (last_read (rules_of T.says) (going taker.old) held.now.number held.now.bytes.items) taker.new }
+    ensures { Leads result (last_read (rules_of T.says) (going taker.old) held.now.number held.now.bytes.items)
+        taker.new }
 {
     if held.bytes.is_empty() {
         return Ok(());

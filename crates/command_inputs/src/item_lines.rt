@@ -16,7 +16,8 @@ use std::alloc::Global;
 pub fn add_line(alloc: Global, plan: &mut Plan, text: &[u8]) -> Result<(), LineFault>
     ensures ok { OnOk result ((item_reason_against (length (items_of plan.old)) text.now ≡ None)
         × (items_of plan.new ≡ items_of plan.old ++ items_in (line_of text.now))) }
-    ensures bad { IfErr result (λ e. IfBad e (λ r. item_reason_against (length (items_of plan.old)) text.now ≡ Some r)) }
+    ensures bad { IfErr result (λ e. IfBad e
+        (λ r. item_reason_against (length (items_of plan.old)) text.now ≡ Some r)) }
 {
     match read_item_line(alloc, plan.len(), text) {
         Ok(line) => match add(plan, line) {

@@ -64,7 +64,8 @@ fn read_behind<S: Source>(
     requires { 0 < length part.old }
     ensures held { (first : Option (List ℕ)) (faults idles : ℕ)
         → Held first faults idles (S.left input.old) (S.faults input.old) (S.idles input.old) bytes.old.items
-        → OnOk result (Held first faults idles (S.left input.new) (S.faults input.new) (S.idles input.new) bytes.new.items) }
+        → OnOk result (Held first faults idles (S.left input.new) (S.faults input.new)
+        (S.idles input.new) bytes.new.items) }
     ensures goes_on { IfOk result (λ goes_on. GoesOn goes_on (S.has_ended input.new × IsSpent (S.left input.new))
         bytes.old.items bytes.new.items) }
     ensures fits { OnOk result (length bytes.new.items ≤ length bytes.old.items + length part.old) }

@@ -38,7 +38,14 @@ impl Model for Decoder {
 
     ghost Value = { Decoding };
 
-    ghost view = { λ d. record { known = d.known; reader = d.reader; offset = d.offset; frames = d.frames; skipped = d.skipped } };
+    ghost view = { λ d. record {
+      known = d.known;
+      reader = d.reader;
+      offset = d.offset;
+      frames = d.frames;
+      skipped =
+          d.skipped;
+    } };
 
     ghost invariant = { λ d. d.reader.reads_old ≡ true };
 }
@@ -52,7 +59,14 @@ pub fn scanner_of(alloc: Global, dialect: &Dialect) -> Result<Scanner, NoMemory>
 
 impl Decoder {
     pub(crate) fn new(alloc: Global, known: DecodeContext) -> Result<Decoder, NoMemory>
-        ensures { IfOk result (λ decoder. decoder ≡ record { known = known; reader = nothing_held (extras_of known.dialect) true; offset = 0; frames = 0; skipped = 0 }) }
+        ensures { IfOk result (λ decoder. decoder ≡ record {
+          known = known;
+          reader = nothing_held
+              (extras_of known.dialect) true;
+          offset = 0;
+          frames = 0;
+          skipped = 0;
+        }) }
     {
         let reader = scanner_of(alloc, &known.dialect)?;
         Decoder::over(alloc, known, reader)
@@ -61,7 +75,14 @@ impl Decoder {
     // A decoder over a reader that has taken no byte.
     fn over(alloc: Global, known: DecodeContext, reader: Scanner) -> Result<Decoder, NoMemory>
         requires { reader ≡ nothing_held (extras_of known.dialect) true }
-        ensures { IfOk result (λ decoder. decoder ≡ record { known = known; reader = nothing_held (extras_of known.dialect) true; offset = 0; frames = 0; skipped = 0 }) }
+        ensures { IfOk result (λ decoder. decoder ≡ record {
+          known = known;
+          reader = nothing_held
+              (extras_of known.dialect) true;
+          offset = 0;
+          frames = 0;
+          skipped = 0;
+        }) }
     {
         let prepared = Prepared::new(alloc, known)?;
         Ok(Decoder {
@@ -82,9 +103,15 @@ impl Decoder {
     fn append_frame(&mut self, size: usize, text: &mut Vec<u8>) -> Result<(), NoMemory>
         requires at { IsNextSpan self.old.reader (NextSpan.Frame size) }
         requires counts { self.old.offset + size < 2 ^ 64 × self.old.frames + 1 < 2 ^ 64 }
-        ensures text { OnOk result (text.new.items ≡ text.old.items ++ event_line self.old.known self.old.offset (FrameEvent (first_packet self.old.reader))) }
+        ensures text { OnOk result (text.new.items ≡ text.old.items ++ event_line self.old.known self.old.offset
+            (FrameEvent (first_packet self.old.reader))) }
         ensures same { OnErr result (self.new ≡ self.old) }
-        ensures appended { OnOk result (self.new ≡ record self.old { reader = record self.old.reader { bytes = drop size self.old.reader.bytes }; offset = self.old.offset + size; frames = self.old.frames + 1 }) }
+        ensures appended { OnOk result
+            (self.new ≡ record self.old {
+              reader = record self.old.reader { bytes = drop size self.old.reader.bytes };
+              offset = self.old.offset + size;
+              frames = self.old.frames + 1;
+            }) }
     {
         let frame = self.reader.raw_frame(size);
         let bytes = self.reader.bytes();
@@ -100,9 +127,15 @@ impl Decoder {
     fn append_skips(&mut self, why: Why, count: usize, text: &mut Vec<u8>) -> Result<(), NoMemory>
         requires size { count ≤ length self.old.reader.bytes }
         requires counts { self.old.offset + count < 2 ^ 64 × self.old.skipped + count < 2 ^ 64 }
-        ensures text { OnOk result (text.new.items ≡ text.old.items ++ skip_lines self.old.offset (take count self.old.reader.bytes) why) }
+        ensures text { OnOk result (text.new.items ≡ text.old.items ++ skip_lines self.old.offset
+            (take count self.old.reader.bytes) why) }
         ensures same { OnErr result (self.new ≡ self.old) }
-        ensures appended { OnOk result (self.new ≡ record self.old { reader = record self.old.reader { bytes = drop count self.old.reader.bytes }; offset = self.old.offset + count; skipped = self.old.skipped + count }) }
+        ensures appended { OnOk result
+            (self.new ≡ record self.old {
+              reader = record self.old.reader { bytes = drop count self.old.reader.bytes };
+              offset = self.old.offset + count;
+              skipped = self.old.skipped + count;
+            }) }
     {
         let bytes = &self.reader.bytes()[..count];
         put_skips(self.offset, bytes, why, &mut self.blocks, text)?;

@@ -69,7 +69,8 @@ impl Prepared {
         requires whole { frame_size_at (is_old_at true bytes.now) bytes.now ≤ length bytes.now }
         requires same { frame.now ≡ packet_at (is_old_at true bytes.now) bytes.now }
         ensures ok { OnOk result (text.new.items ≡ text.old.items
-            ++ frame_line (definition_with (id_at (is_old_at true bytes.now) bytes.now) self.now.dialect) self.now.key offset (packet_at (is_old_at true bytes.now) bytes.now)) }
+            ++ frame_line (definition_with (id_at (is_old_at true bytes.now) bytes.now) self.now.dialect) self.now.key
+            offset (packet_at (is_old_at true bytes.now) bytes.now)) }
         ensures err { OnErr result (text.new.items ≡ text.old.items) }
     {
         let ending = ending(&self.key, frame);

@@ -74,7 +74,8 @@ fn tell_all<T: Teller, K: Sink>(
     ensures load { T.load teller.new ≤ T.load teller.old }
     ensures told { (ended : Bool) (taken : List ℕ) (before : Option (List ℕ))
         → Tells (T.has_told teller.old) ended taken text.old.items before (K.sent out.old)
-        → OnOk result (ToldAll (T.telling teller.old) (T.has_told teller.new) ended taken text.new.items before (K.sent out.new)) }
+        → OnOk result (ToldAll (T.telling teller.old) (T.has_told teller.new) ended taken text.new.items before
+        (K.sent out.new)) }
     ensures room { OnOk result (T.held teller.new < 288) }
     ensures all { (ended : Bool) (taken told : List ℕ) → T.has_told teller.new ended taken told
         → OnOk result (T.has_told_all teller.new ended taken told) }
@@ -107,10 +108,12 @@ fn take<T: Teller, K: Sink>(
     ensures empty { OnOk result (text.new.items ≡ []) }
     ensures told { (taken : List ℕ) (before : Option (List ℕ))
         → Tells (T.has_told teller.old) false taken text.old.items before (K.sent out.old)
-        → OnOk result (ToldAll (T.telling teller.old) (T.has_told teller.new) false (taken ++ piece.now) text.new.items before (K.sent out.new)) }
+        → OnOk result (ToldAll (T.telling teller.old) (T.has_told teller.new) false
+        (taken ++ piece.now) text.new.items before (K.sent out.new)) }
     ensures halted { (taken : List ℕ) (before : Option (List ℕ))
         → Tells (T.has_told teller.old) false taken text.old.items before (K.sent out.old)
-        → IfErr result (λ _. SentPrefix before (K.sent out.new) ((T.telling teller.old).told false (taken ++ piece.now))) }
+        → IfErr result (λ _. SentPrefix before (K.sent out.new)
+        ((T.telling teller.old).told false (taken ++ piece.now))) }
     ensures halts { CountsHalt result (K.faults out.old) (K.faults out.new) }
 {
     teller.feed(piece);
@@ -123,10 +126,12 @@ fn finish<T: Teller, K: Sink>(teller: &mut T, text: &mut Vec<u8>, out: &mut K) -
     requires { T.load teller.old ≤ most_load }
     ensures done { (taken : List ℕ) (before : Option (List ℕ))
         → Tells (T.has_told teller.old) false taken text.old.items before (K.sent out.old)
-        → OnOk result (K.sent out.new ≡ append_known before ((T.telling teller.old).told true taken ++ (T.telling teller.old).closing taken)) }
+        → OnOk result (K.sent out.new ≡ append_known before
+        ((T.telling teller.old).told true taken ++ (T.telling teller.old).closing taken)) }
     ensures halted { (taken : List ℕ) (before : Option (List ℕ))
         → Tells (T.has_told teller.old) false taken text.old.items before (K.sent out.old)
-        → IfErr result (λ _. SentPrefix before (K.sent out.new) ((T.telling teller.old).told true taken ++ (T.telling teller.old).closing taken)) }
+        → IfErr result (λ _. SentPrefix before (K.sent out.new)
+        ((T.telling teller.old).told true taken ++ (T.telling teller.old).closing taken)) }
     ensures halts { CountsHalt result (K.faults out.old) (K.faults out.new) }
 {
     teller.end();

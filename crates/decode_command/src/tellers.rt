@@ -71,8 +71,10 @@ pub trait Teller {
             → OnOk result (text.new.items ≡ text.old.items ++ (telling self.now).closing taken) };
 
     /// What was told is a prefix of what it makes of the bytes taken.
-    ghost leads: { (t : Self) (ended : Bool) (taken told : List ℕ) → has_told t ended taken told → Leads (telling t) ended taken told };
+    ghost leads: { (t : Self) (ended : Bool) (taken told : List ℕ) → has_told t ended taken told
+        → Leads (telling t) ended taken told };
 
     /// And is that, once it is all.
-    ghost all_told: { (t : Self) (ended : Bool) (taken told : List ℕ) → has_told_all t ended taken told → told ≡ (telling t).told ended taken };
+    ghost all_told: { (t : Self) (ended : Bool) (taken told : List ℕ) → has_told_all t ended taken told
+        → told ≡ (telling t).told ended taken };
 }

@@ -11,7 +11,8 @@ use plan_items::Item;
 
 // `SEQ none`, `SEQ ok` or `SEQ outside CODE`; returns whether it is outside.
 fn put_item(text: &mut String, watch: &Watch, number: usize, item: &Item) -> Result<bool, NoMemory>
-    ensures text { IfOk result (λ _. string_bytes text.new ≡ string_bytes text.old ++ item_text watch.now number item.now) }
+    ensures text { IfOk result (λ _. string_bytes text.new ≡ string_bytes text.old ++ item_text watch.now number
+        item.now) }
     ensures outside { IfOk result (λ outside. outside ≡ is_some (judged watch.now item.now)) }
 {
     if !goes_to_location(item.command) {
@@ -32,7 +33,8 @@ fn put_item(text: &mut String, watch: &Watch, number: usize, item: &Item) -> Res
 
 /// The lines of the items; returns how many are outside.
 pub(crate) fn put_items(text: &mut String, watch: &Watch, items: &[Item]) -> Result<usize, NoMemory>
-    ensures text { IfOk result (λ _. string_bytes text.new ≡ string_bytes text.old ++ items_text watch.now 0 items.now) }
+    ensures text { IfOk result (λ _. string_bytes text.new ≡ string_bytes text.old ++ items_text watch.now 0
+        items.now) }
     ensures outside { IfOk result (λ count. count ≡ outside watch.now items.now) }
 {
     let mut number = 0;
@@ -73,7 +75,8 @@ fn ends_touching(watch: &Watch, from: Point, item: &Item) -> bool
 
 // `leg SEQ touches` if it touches; returns how many it is.
 fn put_leg(text: &mut String, touches: bool, number: usize) -> Result<usize, NoMemory>
-    ensures text { IfOk result (λ _. string_bytes text.new ≡ string_bytes text.old ++ legs_text (counted touches number)) }
+    ensures text { IfOk result (λ _. string_bytes text.new ≡ string_bytes text.old ++ legs_text
+        (counted touches number)) }
     ensures count { IfOk result (λ count. count ≡ length (counted touches number)) }
     ensures most { IfOk result (λ count. count ≤ 1) }
 {
@@ -91,7 +94,8 @@ pub(crate) fn put_legs(
     home: Point,
     items: &[Item],
 ) -> Result<usize, NoMemory>
-    ensures text { IfOk result (λ _. string_bytes text.new ≡ string_bytes text.old ++ legs_text (touching watch.now home 0 items.now)) }
+    ensures text { IfOk result (λ _. string_bytes text.new ≡ string_bytes text.old ++ legs_text
+        (touching watch.now home 0 items.now)) }
     ensures count { IfOk result (λ count. count ≡ length (touching watch.now home 0 items.now)) }
 {
     let mut from = home;

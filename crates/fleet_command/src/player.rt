@@ -180,7 +180,8 @@ fn play_line<K: Sink>(
     text: &[u8],
     out: &mut K,
 ) -> Result<(), RunEnd>
-    ensures played { (frames : Bool) (p : Played) (before : Option (List ℕ)) → Holds frames p world.old before (K.sent out.old)
+    ensures played { (frames : Bool) (p : Played) (before : Option (List ℕ))
+        → Holds frames p world.old before (K.sent out.old)
         → Leads frames result (judged p number text.now (reason_against (context_of p.state) text.now))
         world.new before (K.sent out.new) }
     ensures rose { IsErrOf result RunEnd.WriteFault → Rose (K.faults out.old) (K.faults out.new) }

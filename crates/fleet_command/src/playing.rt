@@ -40,7 +40,8 @@ fn play<S: Source, K: Sink>(
     out: &mut K,
 ) -> Result<(), RunEnd>
     requires { 0 < length buf.old }
-    ensures before_status { (key : List ℕ) (frames : Bool) → Reading key frames [] player.old.world player.old.number player.old.line.items
+    ensures before_status { (key : List ℕ) (frames : Bool)
+        → Reading key frames [] player.old.world player.old.number player.old.line.items
         (K.sent out.old) (K.sent out.old)
         → before_status_over (output_of K.faults K.sent out.old out.new) (result_err result)
         (fleet_spec key frames) (input_of S.has_ended S.faults S.idles S.left main.old main.new) }

@@ -47,8 +47,8 @@ fn run_words<S: Source, K: Sink>(
     }
 }
 
-/// Runs `fleet` as the words say, and returns its exit status, which is one of the whole program's; words of another command
-/// are of none here. The words are those after the program's name.
+/// Runs `fleet` as the words say, and returns its exit status, which is one of the whole program's; words of another
+/// command are of none here. The words are those after the program's name.
 ///
 /// `FleetPromises` has all that is promised of the run.
 pub fn run<S: Source, K: Sink>(

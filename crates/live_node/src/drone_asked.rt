@@ -33,14 +33,18 @@ pub fn run_asked_drone<S: Source, K: Sink, C: Clock>(
 ) -> Result<(), RunEnd>
     requires says { DroneSays (map string_bytes line.now.words.items) line.now.ports.items line.now.system }
     requires link { length ports.old.items ≡ 1 }
-    requires store { has_given OptionName.Store (map given_of line.now.settings.items) ≡ true → length keepers.old.items ≡ 1 }
+    requires store { has_given OptionName.Store (map given_of line.now.settings.items) ≡ true
+        → length keepers.old.items ≡ 1 }
     ensures flown { WithGivenKey
         (before_status_over (output_of K.faults K.sent out.old out.new) (result_err result)) (IsErr result)
         ((ports.new ≡ ports.old) × (keepers.new ≡ keepers.old) × (clock.new ≡ clock.old))
         (input_of S.has_ended S.faults S.idles S.left key.old key.new)
-        (λ bytes. Flown (devices state (stores_of ⟦<Store as Keeper>⟧.faults ⟦<Store as Keeper>⟧.is_infallible ⟦<Store as Keeper>⟧.contents) C.always ports.old.items ports.new.items keepers.old.items keepers.new.items clock.old clock.new) (asked_by line.now)
+        (λ bytes. Flown (devices state
+        (stores_of ⟦<Store as Keeper>⟧.faults ⟦<Store as Keeper>⟧.is_infallible ⟦<Store as Keeper>⟧.contents) C.always
+        ports.old.items ports.new.items keepers.old.items keepers.new.items clock.old clock.new) (asked_by line.now)
         (output_of K.faults K.sent out.old out.new) (result_err result) bytes) }
-    ensures unkept { has_given OptionName.Store (map given_of line.now.settings.items) ≡ false → keepers.new ≡ keepers.old }
+    ensures unkept { has_given OptionName.Store (map given_of line.now.settings.items) ≡ false
+        → keepers.new ≡ keepers.old }
     ensures sound { ¬ IsErrOf result RunEnd.WriteFault → K.faults out.new ≡ K.faults out.old }
     ensures not_usage { ¬ IsErrOf result RunEnd.Usage }
 {

@@ -49,11 +49,16 @@ fn run_turns<L: Link, K: Sink, C: Clock, S: Keeper>(
     clock: &mut C,
     keeper: &mut S,
 ) -> Result<bool, RunEnd>
-    ensures did { (before : S) (start : Node) (opening : List LiveCall) (first : Outside) → Between (stores_of S.faults S.is_infallible S.contents) before keeper.old start opening [] [] live.old run_log.old first (outside (L.state link.old) (K.sent out.old) (C.always clock.old))
+    ensures did { (before : S) (start : Node) (opening : List LiveCall) (first : Outside)
+        → Between (stores_of S.faults S.is_infallible S.contents) before keeper.old start opening [] [] live.old
+        run_log.old first (outside (L.state link.old) (K.sent out.old) (C.always clock.old))
         → MatchResult result
-        (λ goes_on. TurnsRan goes_on (stores_of S.faults S.is_infallible S.contents) before keeper.new start opening turns live.new run_log.new first (outside (L.state link.new) (K.sent out.new) (C.always clock.new)))
-        (λ end. TurnsStopped (stores_of S.faults S.is_infallible S.contents) before keeper.new end start opening turns first (outside (L.state link.new) (K.sent out.new) (C.always clock.new))) }
-    ensures ends { Ends IsRunEnd result (outside (L.state link.old) (K.sent out.old) (C.always clock.old)) (outside (L.state link.new) (K.sent out.new) (C.always clock.new)) (K.faults out.old) (K.faults out.new) }
+        (λ goes_on. TurnsRan goes_on (stores_of S.faults S.is_infallible S.contents) before keeper.new start opening
+        turns live.new run_log.new first (outside (L.state link.new) (K.sent out.new) (C.always clock.new)))
+        (λ end. TurnsStopped (stores_of S.faults S.is_infallible S.contents) before keeper.new end start opening turns
+        first (outside (L.state link.new) (K.sent out.new) (C.always clock.new))) }
+    ensures ends { Ends IsRunEnd result (outside (L.state link.old) (K.sent out.old) (C.always clock.old))
+        (outside (L.state link.new) (K.sent out.new) (C.always clock.new)) (K.faults out.old) (K.faults out.new) }
 {
     let mut buf = [0u8; PIECE_BYTES];
     'turns: for _at in 0..turns {
@@ -76,9 +81,14 @@ fn run_live<L: Link, K: Sink, C: Clock, S: Keeper>(
     clock: &mut C,
     keeper: &mut S,
 ) -> Result<(), RunEnd>
-    ensures ran { (before : S) (start : DroneSide) → Opened (stores_of S.faults S.is_infallible S.contents) before keeper.old (StateDrone start) live.old run_log.old (outside (L.state link.old) (K.sent out.old) (C.always clock.old))
-        → DroneLived (stores_of S.faults S.is_infallible S.contents) before keeper.new turns start (result_err result) (outside (L.state link.old) (K.sent out.old) (C.always clock.old)) (outside (L.state link.new) (K.sent out.new) (C.always clock.new)) }
-    ensures ends { Ends (IsDroneEnd turns) result (outside (L.state link.old) (K.sent out.old) (C.always clock.old)) (outside (L.state link.new) (K.sent out.new) (C.always clock.new)) (K.faults out.old) (K.faults out.new) }
+    ensures ran { (before : S) (start : DroneSide)
+        → Opened (stores_of S.faults S.is_infallible S.contents) before keeper.old
+        (StateDrone start) live.old run_log.old (outside (L.state link.old) (K.sent out.old) (C.always clock.old))
+        → DroneLived (stores_of S.faults S.is_infallible S.contents) before keeper.new turns start (result_err result)
+        (outside (L.state link.old) (K.sent out.old) (C.always clock.old))
+        (outside (L.state link.new) (K.sent out.new) (C.always clock.new)) }
+    ensures ends { Ends (IsDroneEnd turns) result (outside (L.state link.old) (K.sent out.old) (C.always clock.old))
+        (outside (L.state link.new) (K.sent out.new) (C.always clock.new)) (K.faults out.old) (K.faults out.new) }
 {
     match call(live, run_log, Due::Heartbeat, link, out, clock, keeper) {
         Ok(()) => {}
@@ -91,8 +101,8 @@ fn run_live<L: Link, K: Sink, C: Clock, S: Keeper>(
     }
 }
 
-/// Runs the drone of a system on a link, for at most so many reads, with the plans that its store has: at the link's end
-/// it is done. It starts disarmed at 0 0, and sends a heartbeat at its start and whenever the link is idle.
+/// Runs the drone of a system on a link, for at most so many reads, with the plans that its store has: at the link's
+/// end it is done. It starts disarmed at 0 0, and sends a heartbeat at its start and whenever the link is idle.
 pub fn run_drone<L: Link, K: Sink, C: Clock, S: Keeper>(
     alloc: Global,
     key: Key,
@@ -102,7 +112,9 @@ pub fn run_drone<L: Link, K: Sink, C: Clock, S: Keeper>(
     clock: &mut C,
     keeper: &mut S,
 ) -> Result<(), RunEnd>
-    ensures { LinkRun (DroneRuns (stores_of S.faults S.is_infallible S.contents) key plan keeper.old keeper.new) (IsDroneEnd plan.turns) result (outside (L.state link.old) (K.sent out.old) (C.always clock.old)) (outside (L.state link.new) (K.sent out.new) (C.always clock.new)) (K.faults out.old) (K.faults out.new) }
+    ensures { LinkRun (DroneRuns (stores_of S.faults S.is_infallible S.contents) key plan keeper.old keeper.new)
+        (IsDroneEnd plan.turns) result (outside (L.state link.old) (K.sent out.old) (C.always clock.old))
+        (outside (L.state link.new) (K.sent out.new) (C.always clock.new)) (K.faults out.old) (K.faults out.new) }
 {
     match DroneNode::start(alloc, key, plan.sys, 0, 0, keeper) {
         Ok(drone) => {
@@ -133,7 +145,9 @@ pub fn run_new_drone<L: Link, K: Sink, C: Clock>(
     out: &mut K,
     clock: &mut C,
 ) -> Result<(), RunEnd>
-    ensures { LinkRun (NewDroneRuns key plan) (IsDroneEnd plan.turns) result (outside (L.state link.old) (K.sent out.old) (C.always clock.old)) (outside (L.state link.new) (K.sent out.new) (C.always clock.new)) (K.faults out.old) (K.faults out.new) }
+    ensures { LinkRun (NewDroneRuns key plan) (IsDroneEnd plan.turns) result
+        (outside (L.state link.old) (K.sent out.old) (C.always clock.old))
+        (outside (L.state link.new) (K.sent out.new) (C.always clock.new)) (K.faults out.old) (K.faults out.new) }
 {
     let mut keeper = MemKeeper::new(alloc, Vec::new(alloc), Vec::new(alloc));
     run_drone(alloc, key, plan, link, out, clock, &mut keeper)

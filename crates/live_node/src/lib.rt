@@ -1,9 +1,10 @@
 //! One live node over a link: a drone or a station, in turns.
 //!
-//! [`run_drone`] sends a heartbeat, and then reads the link turn by turn: the frames that a piece completes are heard, and an
-//! idle link lets time pass. [`run_station`] gives one order after its heartbeat, and takes turns until that has an end. What a call of the node sends is written to the link, and then its lines to the output,
-//! before the next read. The contract says of a run which calls of the node it is made of, in the same definitions as a
-//! scenario's, that its turns are the link's answers in order, and what was written of it, however it ends.
+//! [`run_drone`] sends a heartbeat, and then reads the link turn by turn: the frames that a piece completes are heard,
+//! and an idle link lets time pass. [`run_station`] gives one order after its heartbeat, and takes turns until that
+//! has an end. What a call of the node sends is written to the link, and then its lines to the output, before the next
+//! read. The contract says of a run which calls of the node it is made of, in the same definitions as a scenario's,
+//! that its turns are the link's answers in order, and what was written of it, however it ends.
 //!
 //! [`run_asked_drone`] and [`run_asked_station`] do so for the words of a command line, with the key, the file and the
 //! store that these name.

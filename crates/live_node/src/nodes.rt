@@ -48,14 +48,22 @@ fn drone_part<S: Keeper>(
     clock: u64,
     keeper: &mut S,
 ) -> Result<Vec<News>, NodeFault>
-    ensures done { IfOk result (λ news. (node : DroneSide) (taken : List ℕ) (given : List Event) → IsDrone node drone.old → HasRead taken given drone.old.link
-        → DronePart clock node (taken ++ piece.now) given (AllKept (HasFailed S.faults S.is_infallible keeper.old keeper.new)) drone.new news.items) }
-    ensures stored { OnOk result (StoreHolds (S.contents keeper.old) drone.old → StoreHolds (S.contents keeper.new) drone.new) }
-    ensures given { IfErr result (λ fault. StoreHolds (S.contents keeper.old) drone.old → (node : DroneSide) (taken : List ℕ) (given events : List Event) → IsDrone node drone.old → HasRead taken given drone.old.link
+    ensures done { IfOk result (λ news. (node : DroneSide) (taken : List ℕ) (given : List Event)
+        → IsDrone node drone.old → HasRead taken given drone.old.link
+        → DronePart clock node (taken ++ piece.now) given
+        (AllKept (HasFailed S.faults S.is_infallible keeper.old keeper.new)) drone.new news.items) }
+    ensures stored { OnOk result (StoreHolds (S.contents keeper.old) drone.old
+        → StoreHolds (S.contents keeper.new) drone.new) }
+    ensures given { IfErr result (λ fault. StoreHolds (S.contents keeper.old) drone.old
+        → (node : DroneSide) (taken : List ℕ) (given events : List Event) → IsDrone node drone.old
+        → HasRead taken given drone.old.link
         → GrowsBy drone.old.link.endpoint.extras (taken ++ piece.now) given events
-        → DroneGivenUp clock (AllKept (HasFailed S.faults S.is_infallible keeper.old keeper.new)) (S.contents keeper.new) (frames_of events) node) }
+        → DroneGivenUp clock (AllKept (HasFailed S.faults S.is_infallible keeper.old keeper.new))
+        (S.contents keeper.new) (frames_of events) node) }
     ensures serves { Serves S.faults S.is_infallible keeper.old keeper.new }
-    ensures fault { IfErr result (λ fault. DronePartFails fault clock drone.old piece.now (AllKept (HasFailed S.faults S.is_infallible keeper.old keeper.new)) (HasFailed S.faults S.is_infallible keeper.old keeper.new)) }
+    ensures fault { IfErr result (λ fault. DronePartFails fault clock drone.old piece.now
+        (AllKept (HasFailed S.faults S.is_infallible keeper.old keeper.new))
+        (HasFailed S.faults S.is_infallible keeper.old keeper.new)) }
 {
     match drone.part(piece, clock, keeper) {
         Ok((_, news)) => Ok(news),
@@ -65,7 +73,8 @@ fn drone_part<S: Keeper>(
 
 // A station takes a piece.
 fn station_part(station: &mut StationNode, piece: &[u8], clock: u64) -> Result<Vec<News>, NodeFault>
-    ensures done { IfOk result (λ news. (node : StationSide) (taken : List ℕ) (given : List Event) → IsStation node station.old → HasRead taken given station.old.link
+    ensures done { IfOk result (λ news. (node : StationSide) (taken : List ℕ) (given : List Event)
+        → IsStation node station.old → HasRead taken given station.old.link
         → StationPart clock node (taken ++ piece.now) given station.new news.items) }
     ensures fault { IfErr result (λ fault. StationPartFails fault clock station.old piece.now) }
 {
@@ -91,13 +100,18 @@ impl LiveNode {
         clock: u64,
         keeper: &mut S,
     ) -> Result<Vec<News>, NodeFault>
-        ensures done { IfOk result (λ news. (node : Node) (taken : List ℕ) (given : List Event) → IsLive node self.old → HasHeard taken given self.old
-            → PieceHeard clock node (taken ++ piece.now) given (AllKept (HasFailed S.faults S.is_infallible keeper.old keeper.new)) self.new news.items) }
-        ensures stored { OnOk result (IsKeptBy (S.contents keeper.old) self.old → IsKeptBy (S.contents keeper.new) self.new) }
+        ensures done { IfOk result (λ news. (node : Node) (taken : List ℕ) (given : List Event) → IsLive node self.old
+            → HasHeard taken given self.old
+            → PieceHeard clock node (taken ++ piece.now) given
+            (AllKept (HasFailed S.faults S.is_infallible keeper.old keeper.new)) self.new news.items) }
+        ensures stored { OnOk result (IsKeptBy (S.contents keeper.old) self.old
+            → IsKeptBy (S.contents keeper.new) self.new) }
         ensures given { IfErr result (λ fault. IsKeptBy (S.contents keeper.old) self.old
-            → PieceLeaves clock piece.now (AllKept (HasFailed S.faults S.is_infallible keeper.old keeper.new)) (S.contents keeper.new) self.old) }
+            → PieceLeaves clock piece.now (AllKept (HasFailed S.faults S.is_infallible keeper.old keeper.new))
+            (S.contents keeper.new) self.old) }
         ensures serves { Serves S.faults S.is_infallible keeper.old keeper.new }
-        ensures fault { IfErr result (λ fault. PieceFails fault clock piece.now self.old (HasFailed S.faults S.is_infallible keeper.old keeper.new)) }
+        ensures fault { IfErr result (λ fault. PieceFails fault clock piece.now self.old
+            (HasFailed S.faults S.is_infallible keeper.old keeper.new)) }
     {
         match self {
             LiveNode::Drone(drone) => drone_part(drone, piece, clock, keeper),
@@ -116,12 +130,15 @@ impl LiveNode {
         ensures done { IfOk result (λ news. (node : Node) → IsLive node self.old
             → Did (call_does (due_call due clock) node) (λ after. IsLive after self.new) [] news.items) }
         ensures reader { reader_of (end_of self.new).endpoint ≡ reader_of (end_of self.old).endpoint }
-        ensures stored { OnOk result (IsKeptBy (S.contents keeper.old) self.old → IsKeptBy (S.contents keeper.new) self.new) }
-        ensures given { IfErr result (λ fault. IsKeptBy (S.contents keeper.old) self.old → (node : Node) (call : LiveCall) → IsLive node self.old
+        ensures stored { OnOk result (IsKeptBy (S.contents keeper.old) self.old
+            → IsKeptBy (S.contents keeper.new) self.new) }
+        ensures given { IfErr result (λ fault. IsKeptBy (S.contents keeper.old) self.old
+            → (node : Node) (call : LiveCall) → IsLive node self.old
             → CallLeaves (S.contents keeper.new) node (call ∷ [])) }
         ensures serves { Serves S.faults S.is_infallible keeper.old keeper.new }
         ensures fault { IfErr result (λ fault. (node : Node) → IsLive node self.old
-            → CallFails fault (call_does (due_call due clock) node) (HasFailed S.faults S.is_infallible keeper.old keeper.new)) }
+            → CallFails fault (call_does (due_call due clock) node)
+            (HasFailed S.faults S.is_infallible keeper.old keeper.new)) }
     {
         match (self, due) {
             (LiveNode::Drone(drone), Due::Tick) => drone.tick(clock, keeper),
@@ -144,9 +161,12 @@ impl LiveNode {
         ensures done { IfOk result (λ news. (node : Node) → IsLive node self.old
             → Did (node_obeys clock order node) (λ after. IsLive after self.new) [] news.items) }
         ensures reader { reader_of (end_of self.new).endpoint ≡ reader_of (end_of self.old).endpoint }
-        ensures stored { OnOk result ((contents : Option (List ℕ)) → IsKeptBy contents self.old → IsKeptBy contents self.new) }
-        ensures fault { IfErr result (λ fault. (node : Node) → IsLive node self.old → OrderFailsAt clock order node fault) }
-        ensures given { IfErr result (λ fault. (node : Node) (contents : Option (List ℕ)) (call : LiveCall) → IsLive node self.old → CallLeaves contents node (call ∷ [])) }
+        ensures stored { OnOk result ((contents : Option (List ℕ)) → IsKeptBy contents self.old
+            → IsKeptBy contents self.new) }
+        ensures fault { IfErr result (λ fault. (node : Node) → IsLive node self.old
+            → OrderFailsAt clock order node fault) }
+        ensures given { IfErr result (λ fault. (node : Node) (contents : Option (List ℕ)) (call : LiveCall)
+            → IsLive node self.old → CallLeaves contents node (call ∷ [])) }
         ensures unstored { IfErr result (λ fault. order_end fault ≡ Live StoreFault → ⊥) }
     {
         match self {

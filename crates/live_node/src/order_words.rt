@@ -25,7 +25,8 @@ fn kind_of(word: PlanWord) -> PlanKind
     }
 }
 
-/// The order of an operation with a drone. The contents are those of its file; an operation without one has no use for them.
+/// The order of an operation with a drone. The contents are those of its file; an operation without one has no use for
+/// them.
 pub(crate) fn order_of(operation: Operation, drone: Stream, contents: Contents) -> Order
     ensures { OrdersFor operation drone (contents_of contents) result }
 {

@@ -12,7 +12,8 @@ use std::alloc::Global;
 /// How the operation of a station has ended.
 #[derive(Drop)]
 pub enum Ending {
-    /// It is done, and gave these bytes: those of a file, or the entries of a list of files; none for another operation.
+    /// It is done, and gave these bytes: those of a file, or the entries of a list of files; none for another
+    /// operation.
     Done(Label),
     /// The drone refused it, with this code or result.
     Refused(u8),
@@ -20,8 +21,8 @@ pub enum Ending {
     Unanswered,
 }
 
-/// The name of a node, how many frames it has sent and how many ticks have passed (the counts stand still at 2^64 - 1), and
-/// how its operation has ended, if it has.
+/// The name of a node, how many frames it has sent and how many ticks have passed (the counts stand still at 2^64 -
+/// 1), and how its operation has ended, if it has.
 #[derive(Drop)]
 pub struct RunLog {
     pub(crate) alloc: Global,

@@ -38,7 +38,8 @@ fn frame_of(one: &News) -> &[u8]
 
 // Writes the frame of a piece of news, if it has one.
 fn send_one<L: Link>(link: &mut L, one: &News) -> Result<(), WriteFault>
-    ensures sent { OnOk result ((L.state link.new).sent ≡ append_known (L.state link.old).sent (frame_bytes (said_by one.now))) }
+    ensures sent { OnOk result ((L.state link.new).sent ≡ append_known (L.state link.old).sent
+        (frame_bytes (said_by one.now))) }
     ensures prefix { SentPrefix (L.state link.old).sent (L.state link.new).sent (frame_bytes (said_by one.now)) }
     ensures same { OnOk result ((L.state link.new).faults ≡ (L.state link.old).faults) }
     ensures rose { OnErr result (Rose (L.state link.old).faults (L.state link.new).faults) }
@@ -49,7 +50,8 @@ fn send_one<L: Link>(link: &mut L, one: &News) -> Result<(), WriteFault>
 
 /// Writes the frames of news, in order.
 pub(crate) fn send_news<L: Link>(link: &mut L, news: &[News]) -> Result<(), WriteFault>
-    ensures sent { OnOk result ((L.state link.new).sent ≡ append_known (L.state link.old).sent (frames_text (events_of news.now))) }
+    ensures sent { OnOk result ((L.state link.new).sent ≡ append_known (L.state link.old).sent
+        (frames_text (events_of news.now))) }
     ensures prefix { SentPrefix (L.state link.old).sent (L.state link.new).sent (frames_text (events_of news.now)) }
     ensures same { OnOk result ((L.state link.new).faults ≡ (L.state link.old).faults) }
     ensures rose { OnErr result (Rose (L.state link.old).faults (L.state link.new).faults) }

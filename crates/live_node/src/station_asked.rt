@@ -31,7 +31,8 @@ const TURNS: u64 = 1_000_000;
 fn items_in<S: Source>(alloc: Global, file: &mut S) -> Result<Contents, RunEnd>
     ensures are { IfOk result (λ contents. ContentsAre Of_items
         (input_of S.has_ended S.faults S.idles S.left file.old file.new) (contents_of contents)) }
-    ensures halts { IfErr result (λ run_end. (refusals : ℕ) (sent : Option (List ℕ)) → HaltsAt Of_items (before_status_over
+    ensures halts { IfErr result (λ run_end. (refusals : ℕ) (sent : Option (List ℕ))
+        → HaltsAt Of_items (before_status_over
         (record { refusals_before = refusals; refusals_after = refusals; sent_before = sent; sent_after = sent })
         (Some run_end)) (input_of S.has_ended S.faults S.idles S.left file.old file.new)) }
     ensures not_usage { ¬ IsErrOf result RunEnd.Usage }
@@ -49,7 +50,8 @@ fn items_in<S: Source>(alloc: Global, file: &mut S) -> Result<Contents, RunEnd>
 fn bytes_in<S: Source>(alloc: Global, file: &mut S) -> Result<Contents, RunEnd>
     ensures are { IfOk result (λ contents. ContentsAre Of_bytes
         (input_of S.has_ended S.faults S.idles S.left file.old file.new) (contents_of contents)) }
-    ensures halts { IfErr result (λ run_end. (refusals : ℕ) (sent : Option (List ℕ)) → HaltsAt Of_bytes (before_status_over
+    ensures halts { IfErr result (λ run_end. (refusals : ℕ) (sent : Option (List ℕ))
+        → HaltsAt Of_bytes (before_status_over
         (record { refusals_before = refusals; refusals_after = refusals; sent_before = sent; sent_after = sent })
         (Some run_end)) (input_of S.has_ended S.faults S.idles S.left file.old file.new)) }
     ensures not_usage { ¬ IsErrOf result RunEnd.Usage }
@@ -70,10 +72,12 @@ fn read_contents<S: Source>(
     task: &Task,
     file: &mut S,
 ) -> Result<Contents, RunEnd>
-    ensures are { IfOk result (λ contents. ContentsAre (sort_of (has_given OptionName.File (map given_of line.now.settings.items)) (is_on_files task.now.operation))
+    ensures are { IfOk result (λ contents. ContentsAre
+        (sort_of (has_given OptionName.File (map given_of line.now.settings.items)) (is_on_files task.now.operation))
         (input_of S.has_ended S.faults S.idles S.left file.old file.new) (contents_of contents)) }
     ensures halts { IfErr result (λ run_end. (refusals : ℕ) (sent : Option (List ℕ))
-        → HaltsAt (sort_of (has_given OptionName.File (map given_of line.now.settings.items)) (is_on_files task.now.operation)) (before_status_over
+        → HaltsAt (sort_of (has_given OptionName.File (map given_of line.now.settings.items))
+        (is_on_files task.now.operation)) (before_status_over
         (record { refusals_before = refusals; refusals_after = refusals; sent_before = sent; sent_after = sent })
         (Some run_end)) (input_of S.has_ended S.faults S.idles S.left file.old file.new)) }
     ensures unread { has_given OptionName.File (map given_of line.now.settings.items) ≡ false → file.new ≡ file.old }
@@ -111,10 +115,13 @@ pub fn run_asked_station<S: Source, K: Sink, C: Clock>(
         (file_asked (asked_by line.now))
         (input_of S.has_ended S.faults S.idles S.left inputs.old.key inputs.new.key)
         (input_of S.has_ended S.faults S.idles S.left inputs.old.main inputs.new.main)
-        (λ bytes contents. Stationed (devices state (stores_of ⟦<Store as Keeper>⟧.faults ⟦<Store as Keeper>⟧.is_infallible ⟦<Store as Keeper>⟧.contents) C.always ports.old.items ports.new.items keepers.now.items keepers.now.items clock.old clock.new) (asked_by line.now)
+        (λ bytes contents. Stationed (devices state
+        (stores_of ⟦<Store as Keeper>⟧.faults ⟦<Store as Keeper>⟧.is_infallible ⟦<Store as Keeper>⟧.contents) C.always
+        ports.old.items ports.new.items keepers.now.items keepers.now.items clock.old clock.new) (asked_by line.now)
         (output_of K.faults K.sent out.old out.new) (result_err result) bytes contents) }
     ensures unread_defs { inputs.new.defs ≡ inputs.old.defs }
-    ensures unread_main { has_given OptionName.File (map given_of line.now.settings.items) ≡ false → inputs.new.main ≡ inputs.old.main }
+    ensures unread_main { has_given OptionName.File (map given_of line.now.settings.items) ≡ false
+        → inputs.new.main ≡ inputs.old.main }
     ensures sound { ¬ IsErrOf result RunEnd.WriteFault → K.faults out.new ≡ K.faults out.old }
     ensures not_usage { ¬ IsErrOf result RunEnd.Usage }
 {

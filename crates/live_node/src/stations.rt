@@ -28,8 +28,8 @@ use plan_store::{Keeper, MemKeeper};
 use run_status::{LiveEnd, RunEnd};
 use std::alloc::Global;
 
-/// A station's system and component, how many ticks it waits for the end of its operation, and how many reads may be made
-/// of a port that hasn't ended.
+/// A station's system and component, how many ticks it waits for the end of its operation, and how many reads may be
+/// made of a port that hasn't ended.
 #[derive(Clone, Copy)]
 pub struct StationPlan {
     pub sys: u8,
@@ -48,13 +48,18 @@ fn obey<L: Link, K: Sink, C: Clock, S: Keeper>(
     clock: &mut C,
     keeper: &S,
 ) -> Result<(), RunEnd>
-    ensures did { (before : S) (start : Node) (made : List LiveCall) (first : Outside) → (o : Output (stores_of S.faults S.is_infallible S.contents) before keeper.now start made live.old run_log.old first (outside (L.state link.old) (K.sent out.old) (C.always clock.old)))
+    ensures did { (before : S) (start : Node) (made : List LiveCall) (first : Outside)
+        → (o : Output (stores_of S.faults S.is_infallible S.contents) before keeper.now start made live.old run_log.old
+        first (outside (L.state link.old) (K.sent out.old) (C.always clock.old)))
         → MatchResult result
-        (λ _. OrderDone (stores_of S.faults S.is_infallible S.contents) before keeper.now start made o.node order live.new run_log.new first (outside (L.state link.new) (K.sent out.new) (C.always clock.new)))
-        (λ end. OrderStopped (stores_of S.faults S.is_infallible S.contents) before keeper.now end start made o.node order first (outside (L.state link.new) (K.sent out.new) (C.always clock.new))) }
+        (λ _. OrderDone (stores_of S.faults S.is_infallible S.contents) before keeper.now start made o.node order
+        live.new run_log.new first (outside (L.state link.new) (K.sent out.new) (C.always clock.new)))
+        (λ end. OrderStopped (stores_of S.faults S.is_infallible S.contents) before keeper.now end start made o.node
+        order first (outside (L.state link.new) (K.sent out.new) (C.always clock.new))) }
     ensures unread { SameRead (L.state link.old) (L.state link.new) }
     ensures reader { OnOk result (reader_of (end_of live.new).endpoint ≡ reader_of (end_of live.old).endpoint) }
-    ensures ends { Ends IsOrderEnd result (outside (L.state link.old) (K.sent out.old) (C.always clock.old)) (outside (L.state link.new) (K.sent out.new) (C.always clock.new)) (K.faults out.old) (K.faults out.new) }
+    ensures ends { Ends IsOrderEnd result (outside (L.state link.old) (K.sent out.old) (C.always clock.old))
+        (outside (L.state link.new) (K.sent out.new) (C.always clock.new)) (K.faults out.old) (K.faults out.new) }
 {
     let now = clock.now();
     match live.order(run_log.alloc, order, now) {
@@ -73,11 +78,16 @@ fn watch<L: Link, K: Sink, C: Clock, S: Keeper>(
     clock: &mut C,
     keeper: &mut S,
 ) -> Result<bool, RunEnd>
-    ensures did { (before : S) (start : Node) (opening : List LiveCall) (first : Outside) → Between (stores_of S.faults S.is_infallible S.contents) before keeper.old start opening [] [] live.old run_log.old first (outside (L.state link.old) (K.sent out.old) (C.always clock.old))
+    ensures did { (before : S) (start : Node) (opening : List LiveCall) (first : Outside)
+        → Between (stores_of S.faults S.is_infallible S.contents) before keeper.old start opening [] [] live.old
+        run_log.old first (outside (L.state link.old) (K.sent out.old) (C.always clock.old))
         → MatchResult result
-        (λ goes_on. Watched goes_on (stores_of S.faults S.is_infallible S.contents) before keeper.new plan start opening live.new run_log.new first (outside (L.state link.new) (K.sent out.new) (C.always clock.new)))
-        (λ end. WatchStopped (stores_of S.faults S.is_infallible S.contents) before keeper.new end plan start opening first (outside (L.state link.new) (K.sent out.new) (C.always clock.new))) }
-    ensures ends { Ends IsRunEnd result (outside (L.state link.old) (K.sent out.old) (C.always clock.old)) (outside (L.state link.new) (K.sent out.new) (C.always clock.new)) (K.faults out.old) (K.faults out.new) }
+        (λ goes_on. Watched goes_on (stores_of S.faults S.is_infallible S.contents) before keeper.new plan start opening
+        live.new run_log.new first (outside (L.state link.new) (K.sent out.new) (C.always clock.new)))
+        (λ end. WatchStopped (stores_of S.faults S.is_infallible S.contents) before keeper.new end plan start opening
+        first (outside (L.state link.new) (K.sent out.new) (C.always clock.new))) }
+    ensures ends { Ends IsRunEnd result (outside (L.state link.old) (K.sent out.old) (C.always clock.old))
+        (outside (L.state link.new) (K.sent out.new) (C.always clock.new)) (K.faults out.old) (K.faults out.new) }
 {
     let mut buf = [0u8; PIECE_BYTES];
     'turns: for _at in 0..plan.turns {
@@ -103,11 +113,17 @@ fn outlast<L: Link, K: Sink, C: Clock, S: Keeper>(
     clock: &mut C,
     keeper: &mut S,
 ) -> Result<(), RunEnd>
-    ensures did { (before : S) (start : Node) (opening : List LiveCall) (turns : List Turn) (first : Outside) → PortEnded (stores_of S.faults S.is_infallible S.contents) before keeper.old start opening turns [] live.old run_log.old first (outside (L.state link.old) (K.sent out.old) (C.always clock.old)) → Awaited most start opening turns []
+    ensures did { (before : S) (start : Node) (opening : List LiveCall) (turns : List Turn) (first : Outside)
+        → PortEnded (stores_of S.faults S.is_infallible S.contents) before keeper.old start opening turns [] live.old
+        run_log.old first (outside (L.state link.old) (K.sent out.old) (C.always clock.old))
+        → Awaited most start opening turns []
         → MatchResult result
-        (λ _. Outlasted (stores_of S.faults S.is_infallible S.contents) before keeper.new most start opening turns live.new run_log.new first (outside (L.state link.new) (K.sent out.new) (C.always clock.new)))
-        (λ end. OutlastStopped (stores_of S.faults S.is_infallible S.contents) before keeper.new end most start opening turns first (outside (L.state link.new) (K.sent out.new) (C.always clock.new))) }
-    ensures ends { Ends IsRunEnd result (outside (L.state link.old) (K.sent out.old) (C.always clock.old)) (outside (L.state link.new) (K.sent out.new) (C.always clock.new)) (K.faults out.old) (K.faults out.new) }
+        (λ _. Outlasted (stores_of S.faults S.is_infallible S.contents) before keeper.new most start opening turns
+        live.new run_log.new first (outside (L.state link.new) (K.sent out.new) (C.always clock.new)))
+        (λ end. OutlastStopped (stores_of S.faults S.is_infallible S.contents) before keeper.new end most start opening
+        turns first (outside (L.state link.new) (K.sent out.new) (C.always clock.new))) }
+    ensures ends { Ends IsRunEnd result (outside (L.state link.old) (K.sent out.old) (C.always clock.old))
+        (outside (L.state link.new) (K.sent out.new) (C.always clock.new)) (K.faults out.old) (K.faults out.new) }
 {
     'ticks: for _at in 0..most {
         if run_log.is_over(most) {
@@ -141,9 +157,13 @@ fn wait_for<L: Link, K: Sink, C: Clock, S: Keeper>(
     clock: &mut C,
     keeper: &mut S,
 ) -> Result<Label, RunEnd>
-    ensures waited { (before : S) (start : Node) (opening : List LiveCall) (first : Outside) → Between (stores_of S.faults S.is_infallible S.contents) before keeper.old start opening [] [] live.old run_log.old first (outside (L.state link.old) (K.sent out.old) (C.always clock.old))
-        → WaitedFor (stores_of S.faults S.is_infallible S.contents) before keeper.new plan start opening result first (outside (L.state link.new) (K.sent out.new) (C.always clock.new)) }
-    ensures ends { Ends IsWaitedEnd result (outside (L.state link.old) (K.sent out.old) (C.always clock.old)) (outside (L.state link.new) (K.sent out.new) (C.always clock.new)) (K.faults out.old) (K.faults out.new) }
+    ensures waited { (before : S) (start : Node) (opening : List LiveCall) (first : Outside)
+        → Between (stores_of S.faults S.is_infallible S.contents) before keeper.old start opening [] [] live.old
+        run_log.old first (outside (L.state link.old) (K.sent out.old) (C.always clock.old))
+        → WaitedFor (stores_of S.faults S.is_infallible S.contents) before keeper.new plan start opening result first
+        (outside (L.state link.new) (K.sent out.new) (C.always clock.new)) }
+    ensures ends { Ends IsWaitedEnd result (outside (L.state link.old) (K.sent out.old) (C.always clock.old))
+        (outside (L.state link.new) (K.sent out.new) (C.always clock.new)) (K.faults out.old) (K.faults out.new) }
 {
     match watch(live, run_log, plan, link, out, clock, keeper) {
         Ok(true) => judge(run_log, plan),
@@ -166,9 +186,15 @@ fn run_live<L: Link, K: Sink, C: Clock, S: Keeper>(
     clock: &mut C,
     keeper: &mut S,
 ) -> Result<Label, RunEnd>
-    ensures ran { (before : S) (start : Node) → Opened (stores_of S.faults S.is_infallible S.contents) before keeper.old start live.old run_log.old (outside (L.state link.old) (K.sent out.old) (C.always clock.old))
-        → StationLived (stores_of S.faults S.is_infallible S.contents) before keeper.new plan order start result (outside (L.state link.old) (K.sent out.old) (C.always clock.old)) (outside (L.state link.new) (K.sent out.new) (C.always clock.new)) }
-    ensures ends { Ends (λ end. (end ≡ RunEnd.Live LiveEnd.StoreFault) ⊎ IsStationEnd end) result (outside (L.state link.old) (K.sent out.old) (C.always clock.old)) (outside (L.state link.new) (K.sent out.new) (C.always clock.new)) (K.faults out.old) (K.faults out.new) }
+    ensures ran { (before : S) (start : Node)
+        → Opened (stores_of S.faults S.is_infallible S.contents) before keeper.old start live.old run_log.old
+        (outside (L.state link.old) (K.sent out.old) (C.always clock.old))
+        → StationLived (stores_of S.faults S.is_infallible S.contents) before keeper.new plan order start result
+        (outside (L.state link.old) (K.sent out.old) (C.always clock.old))
+        (outside (L.state link.new) (K.sent out.new) (C.always clock.new)) }
+    ensures ends { Ends (λ end. (end ≡ RunEnd.Live LiveEnd.StoreFault) ⊎ IsStationEnd end) result
+        (outside (L.state link.old) (K.sent out.old) (C.always clock.old))
+        (outside (L.state link.new) (K.sent out.new) (C.always clock.new)) (K.faults out.old) (K.faults out.new) }
 {
     match call(live, run_log, Due::Heartbeat, link, out, clock, keeper) {
         Ok(()) => {}
@@ -194,7 +220,8 @@ fn give<K: Sink>(ended: Result<Label, RunEnd>, out: &mut K) -> Result<(), RunEnd
     ensures gives { (link : LinkState) (time : Option ℕ)
         → Gives ended (result_err result) (outside link (K.sent out.old) time) (outside link (K.sent out.new) time) }
     ensures end { IfErr ended IsStationEnd → IfErr result IsStationEnd }
-    ensures faults { (port_before port_after before : ℕ) → FaultsBy (result_err ended) port_before port_after before (K.faults out.old)
+    ensures faults { (port_before port_after before : ℕ)
+        → FaultsBy (result_err ended) port_before port_after before (K.faults out.old)
         → FaultsBy (result_err result) port_before port_after before (K.faults out.new) }
 {
     match ended {
@@ -203,8 +230,8 @@ fn give<K: Sink>(ended: Result<Label, RunEnd>, out: &mut K) -> Result<(), RunEnd
     }
 }
 
-/// Runs a station on a link: it sends a heartbeat, gives its order, and takes turns until this has an end. After the link's
-/// end only time passes. The bytes that the order gave are written after all lines. It stores nothing.
+/// Runs a station on a link: it sends a heartbeat, gives its order, and takes turns until this has an end. After the
+/// link's end only time passes. The bytes that the order gave are written after all lines. It stores nothing.
 pub fn run_station<L: Link, K: Sink, C: Clock>(
     alloc: Global,
     key: Key,
@@ -214,7 +241,9 @@ pub fn run_station<L: Link, K: Sink, C: Clock>(
     out: &mut K,
     clock: &mut C,
 ) -> Result<(), RunEnd>
-    ensures { LinkRun (StationRuns key plan order) IsStationEnd result (outside (L.state link.old) (K.sent out.old) (C.always clock.old)) (outside (L.state link.new) (K.sent out.new) (C.always clock.new)) (K.faults out.old) (K.faults out.new) }
+    ensures { LinkRun (StationRuns key plan order) IsStationEnd result
+        (outside (L.state link.old) (K.sent out.old) (C.always clock.old))
+        (outside (L.state link.new) (K.sent out.new) (C.always clock.new)) (K.faults out.old) (K.faults out.new) }
 {
     let boot = clock.now();
     let me = Stream {

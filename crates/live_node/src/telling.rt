@@ -96,7 +96,8 @@ impl RunLog {
         piece: &News,
         report: &mut Report,
     ) -> Result<(), NoMemory>
-        ensures { OnOk result ((event : NodeEvent) → said_by piece.now ≡ shown event → HaveValues values.now (event ∷ [])
+        ensures { OnOk result ((event : NodeEvent) → said_by piece.now ≡ shown event
+            → HaveValues values.now (event ∷ [])
             → Tells (event ∷ []) self.old self.new report.old report.new) }
     {
         let sent = self.sent;
@@ -112,7 +113,8 @@ impl RunLog {
         news: &[News],
         report: &mut Report,
     ) -> Result<(), NoMemory>
-        ensures { OnOk result ((events : List NodeEvent) → events_of news.now ≡ map shown events → HaveValues values.now events
+        ensures { OnOk result ((events : List NodeEvent) → events_of news.now ≡ map shown events
+            → HaveValues values.now events
             → Tells events self.old self.new report.old report.new) }
     {
         for piece in news {
@@ -123,7 +125,8 @@ impl RunLog {
 
     // The lines of news.
     fn lines(&mut self, values: &[Param], news: &[News]) -> Result<Report, NoMemory>
-        ensures { IfOk result (λ report. (events : List NodeEvent) → events_of news.now ≡ map shown events → HaveValues values.now events
+        ensures { IfOk result (λ report. (events : List NodeEvent) → events_of news.now ≡ map shown events
+            → HaveValues values.now events
             → TellsAll events self.old self.new report) }
     {
         let mut report = Report::new(self.alloc, false);
@@ -133,7 +136,8 @@ impl RunLog {
 
     // Writes the lines of news.
     fn print<K: Sink>(&mut self, values: &[Param], out: &mut K, news: &[News]) -> Result<(), RunEnd>
-        ensures printed { (events : List NodeEvent) → events_of news.now ≡ map shown events → HaveValues values.now events
+        ensures printed { (events : List NodeEvent) → events_of news.now ≡ map shown events
+            → HaveValues values.now events
             → Prints (result_err result) events self.old self.new (K.sent out.old) (K.sent out.new) }
         ensures faults { PrintFaults (result_err result) (K.faults out.old) (K.faults out.new) }
         ensures end { IfErr result (λ end. (end ≡ RunEnd.WriteFault) ⊎ (end ≡ RunEnd.NoMemory)) }
@@ -152,8 +156,10 @@ impl RunLog {
         news: &[News],
     ) -> Result<(), RunEnd>
         ensures said { (events : List NodeEvent) → events_of news.now ≡ map shown events → HaveValues values.now events
-            → Said (result_err result) events self.old self.new (L.state link.old) (L.state link.new) (K.sent out.old) (K.sent out.new) }
-        ensures faults { FaultsBy (result_err result) (L.state link.old).faults (L.state link.new).faults (K.faults out.old) (K.faults out.new) }
+            → Said (result_err result) events self.old self.new (L.state link.old) (L.state link.new) (K.sent out.old)
+            (K.sent out.new) }
+        ensures faults { FaultsBy (result_err result) (L.state link.old).faults (L.state link.new).faults
+            (K.faults out.old) (K.faults out.new) }
         ensures unread { SameRead (L.state link.old) (L.state link.new) }
         ensures end { IfErr result IsTellingEnd }
     {

@@ -31,13 +31,18 @@ pub(crate) fn call<L: Link, K: Sink, C: Clock, S: Keeper>(
     clock: &mut C,
     keeper: &mut S,
 ) -> Result<(), RunEnd>
-    ensures did { (before : S) (start : Node) (made : List LiveCall) (first : Outside) → Output (stores_of S.faults S.is_infallible S.contents) before keeper.old start made live.old run_log.old first (outside (L.state link.old) (K.sent out.old) (C.always clock.old))
+    ensures did { (before : S) (start : Node) (made : List LiveCall) (first : Outside)
+        → Output (stores_of S.faults S.is_infallible S.contents) before keeper.old start made live.old run_log.old first
+        (outside (L.state link.old) (K.sent out.old) (C.always clock.old))
         → MatchResult result
-        (λ _. CallDone (stores_of S.faults S.is_infallible S.contents) before keeper.new start made (due_call due) live.new run_log.new first (outside (L.state link.new) (K.sent out.new) (C.always clock.new)))
-        (λ end. CallStopped (stores_of S.faults S.is_infallible S.contents) before keeper.new end start made (due_call due) first (outside (L.state link.new) (K.sent out.new) (C.always clock.new))) }
+        (λ _. CallDone (stores_of S.faults S.is_infallible S.contents) before keeper.new start made
+        (due_call due) live.new run_log.new first (outside (L.state link.new) (K.sent out.new) (C.always clock.new)))
+        (λ end. CallStopped (stores_of S.faults S.is_infallible S.contents) before keeper.new end start made
+        (due_call due) first (outside (L.state link.new) (K.sent out.new) (C.always clock.new))) }
     ensures unread { SameRead (L.state link.old) (L.state link.new) }
     ensures reader { reader_of (end_of live.new).endpoint ≡ reader_of (end_of live.old).endpoint }
-    ensures ends { Ends IsRunEnd result (outside (L.state link.old) (K.sent out.old) (C.always clock.old)) (outside (L.state link.new) (K.sent out.new) (C.always clock.new)) (K.faults out.old) (K.faults out.new) }
+    ensures ends { Ends IsRunEnd result (outside (L.state link.old) (K.sent out.old) (C.always clock.old))
+        (outside (L.state link.new) (K.sent out.new) (C.always clock.new)) (K.faults out.old) (K.faults out.new) }
 {
     let now = clock.now();
     match live.call(run_log.alloc, due, now, keeper) {
@@ -58,13 +63,18 @@ pub(crate) fn wait<L: Link, K: Sink, C: Clock, S: Keeper>(
     clock: &mut C,
     keeper: &mut S,
 ) -> Result<(), RunEnd>
-    ensures did { (before : S) (start : Node) (made : List LiveCall) (first : Outside) → Output (stores_of S.faults S.is_infallible S.contents) before keeper.old start made live.old run_log.old first (outside (L.state link.old) (K.sent out.old) (C.always clock.old))
+    ensures did { (before : S) (start : Node) (made : List LiveCall) (first : Outside)
+        → Output (stores_of S.faults S.is_infallible S.contents) before keeper.old start made live.old run_log.old first
+        (outside (L.state link.old) (K.sent out.old) (C.always clock.old))
         → MatchResult result
-        (λ _. WaitDone (stores_of S.faults S.is_infallible S.contents) before keeper.new start made live.new run_log.new first (outside (L.state link.new) (K.sent out.new) (C.always clock.new)))
-        (λ end. WaitStopped (stores_of S.faults S.is_infallible S.contents) before keeper.new end start made first (outside (L.state link.new) (K.sent out.new) (C.always clock.new))) }
+        (λ _. WaitDone (stores_of S.faults S.is_infallible S.contents) before keeper.new start made live.new run_log.new
+        first (outside (L.state link.new) (K.sent out.new) (C.always clock.new)))
+        (λ end. WaitStopped (stores_of S.faults S.is_infallible S.contents) before keeper.new end start made first
+        (outside (L.state link.new) (K.sent out.new) (C.always clock.new))) }
     ensures unread { SameRead (L.state link.old) (L.state link.new) }
     ensures reader { reader_of (end_of live.new).endpoint ≡ reader_of (end_of live.old).endpoint }
-    ensures ends { Ends IsRunEnd result (outside (L.state link.old) (K.sent out.old) (C.always clock.old)) (outside (L.state link.new) (K.sent out.new) (C.always clock.new)) (K.faults out.old) (K.faults out.new) }
+    ensures ends { Ends IsRunEnd result (outside (L.state link.old) (K.sent out.old) (C.always clock.old))
+        (outside (L.state link.new) (K.sent out.new) (C.always clock.new)) (K.faults out.old) (K.faults out.new) }
 {
     call(live, run_log, Due::Tick, link, out, clock, keeper)?;
     call(live, run_log, Due::Heartbeat, link, out, clock, keeper)?;
@@ -81,12 +91,20 @@ fn hear<L: Link, K: Sink, C: Clock, S: Keeper>(
     clock: &mut C,
     keeper: &mut S,
 ) -> Result<(), RunEnd>
-    ensures did { (before : S) (start : Node) (made : List LiveCall) (first : Outside) (extras : List (ℕ × ℕ)) (taken : List ℕ) (given : List Event) → Output (stores_of S.faults S.is_infallible S.contents) before keeper.old start made live.old run_log.old first (outside (L.state link.old) (K.sent out.old) (C.always clock.old)) → (end_of live.old).endpoint.extras ≡ extras → HasHeard taken given live.old
+    ensures did { (before : S) (start : Node) (made : List LiveCall) (first : Outside) (extras : List (ℕ × ℕ))
+        (taken : List ℕ) (given : List Event)
+        → Output (stores_of S.faults S.is_infallible S.contents) before keeper.old start made live.old run_log.old first
+        (outside (L.state link.old) (K.sent out.old) (C.always clock.old)) → (end_of live.old).endpoint.extras ≡ extras
+        → HasHeard taken given live.old
         → MatchResult result
-        (λ _. HeardPiece (stores_of S.faults S.is_infallible S.contents) before keeper.new extras start made (taken ++ piece.now) given live.new run_log.new first (outside (L.state link.new) (K.sent out.new) (C.always clock.new)))
-        (λ end. PieceStopped (stores_of S.faults S.is_infallible S.contents) before keeper.new end extras taken given piece.now start made first (outside (L.state link.new) (K.sent out.new) (C.always clock.new))) }
+        (λ _. HeardPiece (stores_of S.faults S.is_infallible S.contents) before keeper.new extras start made
+        (taken ++ piece.now) given live.new run_log.new first
+        (outside (L.state link.new) (K.sent out.new) (C.always clock.new)))
+        (λ end. PieceStopped (stores_of S.faults S.is_infallible S.contents) before keeper.new end extras taken given
+        piece.now start made first (outside (L.state link.new) (K.sent out.new) (C.always clock.new))) }
     ensures unread { SameRead (L.state link.old) (L.state link.new) }
-    ensures ends { Ends IsRunEnd result (outside (L.state link.old) (K.sent out.old) (C.always clock.old)) (outside (L.state link.new) (K.sent out.new) (C.always clock.new)) (K.faults out.old) (K.faults out.new) }
+    ensures ends { Ends IsRunEnd result (outside (L.state link.old) (K.sent out.old) (C.always clock.old))
+        (outside (L.state link.new) (K.sent out.new) (C.always clock.new)) (K.faults out.old) (K.faults out.new) }
 {
     let now = clock.now();
     match live.part(piece, now, keeper) {
@@ -107,11 +125,16 @@ pub(crate) fn turn<L: Link, K: Sink, C: Clock, S: Keeper>(
 ) -> Result<bool, RunEnd>
     requires least { 0 < length buf.old }
     requires most { length buf.old ≤ 4096 }
-    ensures did { (before : S) (start : Node) (opening : List LiveCall) (turns : List Turn) (first : Outside) → Between (stores_of S.faults S.is_infallible S.contents) before keeper.old start opening turns [] live.old run_log.old first (outside (L.state link.old) (K.sent out.old) (C.always clock.old))
+    ensures did { (before : S) (start : Node) (opening : List LiveCall) (turns : List Turn) (first : Outside)
+        → Between (stores_of S.faults S.is_infallible S.contents) before keeper.old start opening turns [] live.old
+        run_log.old first (outside (L.state link.old) (K.sent out.old) (C.always clock.old))
         → MatchResult result
-        (λ goes_on. Turned goes_on (stores_of S.faults S.is_infallible S.contents) before keeper.new start opening turns live.new run_log.new first (outside (L.state link.new) (K.sent out.new) (C.always clock.new)))
-        (λ end. TurnStops (stores_of S.faults S.is_infallible S.contents) before keeper.new end start opening turns first (outside (L.state link.new) (K.sent out.new) (C.always clock.new))) }
-    ensures ends { Ends IsRunEnd result (outside (L.state link.old) (K.sent out.old) (C.always clock.old)) (outside (L.state link.new) (K.sent out.new) (C.always clock.new)) (K.faults out.old) (K.faults out.new) }
+        (λ goes_on. Turned goes_on (stores_of S.faults S.is_infallible S.contents) before keeper.new start opening turns
+        live.new run_log.new first (outside (L.state link.new) (K.sent out.new) (C.always clock.new)))
+        (λ end. TurnStops (stores_of S.faults S.is_infallible S.contents) before keeper.new end start opening turns
+        first (outside (L.state link.new) (K.sent out.new) (C.always clock.new))) }
+    ensures ends { Ends IsRunEnd result (outside (L.state link.old) (K.sent out.old) (C.always clock.old))
+        (outside (L.state link.new) (K.sent out.new) (C.always clock.new)) (K.faults out.old) (K.faults out.new) }
 {
     match link.read(buf) {
         Got::Bytes(count) => match hear(live, run_log, &buf[..count], link, out, clock, keeper) {

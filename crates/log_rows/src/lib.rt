@@ -6,8 +6,8 @@
 //! pieces, what the reader gives is that parse. [`row_span`] says what is at the start of some bytes, for readers with
 //! other buffers. No call allocates or fails.
 //!
-//! A [`Replay`] plays a log as a link: it reads the log from the link in it, and hands out the frames of its rows without
-//! the times; what is written to it goes on to that link. It waits for no time of a row.
+//! A [`Replay`] plays a log as a link: it reads the log from the link in it, and hands out the frames of its rows
+//! without the times; what is written to it goes on to that link. It waits for no time of a row.
 #![tactic(auto)]
 
 pub mod laws;

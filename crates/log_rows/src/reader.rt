@@ -58,7 +58,8 @@ impl LogReader {
         ensures held { self.new ≡ record self.old { bytes = self.old.bytes ++ take result piece.now } }
         // The events given are a prefix of the parse of all bytes taken.
         ensures progress { (extras : List (ℕ × ℕ)) (taken : List ℕ) (given : List LogEvent) → self.old.ended ≡ false
-            → LogProgress extras taken given self.old → LogProgress extras (taken ++ take result piece.now) given self.new }
+            → LogProgress extras taken given self.old
+            → LogProgress extras (taken ++ take result piece.now) given self.new }
     {
         self.window.append(piece)
     }

@@ -76,7 +76,8 @@ impl Rows {
 
     // Finds the next frame, if none is handed out already: whether there is one.
     fn find(&mut self) -> bool
-        ensures left { (rest : List ℕ) → (self.old.ended ≡ true → rest ≡ []) → frames_left self.old rest ≡ frames_left self.new rest }
+        ensures left { (rest : List ℕ) → (self.old.ended ≡ true → rest ≡ [])
+            → frames_left self.old rest ≡ frames_left self.new rest }
         ensures ended { self.new.ended ≡ self.old.ended }
         ensures found { result ≡ true → 0 < length self.new.frame }
         ensures none { result ≡ false → NoRowHeld self.new }
@@ -123,7 +124,8 @@ impl Rows {
         count
     }
 
-    /// Hands out the frames of the rows held: End if the log has ended and none is left, and Idle if more bytes are needed.
+    /// Hands out the frames of the rows held: End if the log has ended and none is left, and Idle if more bytes are
+    /// needed.
     pub(crate) fn at_hand(&mut self, buf: &mut [u8]) -> Got
         requires { 0 < length buf.old }
         ensures gives { Gives (self.old.ended ≡ true) [] self.old self.new result buf.new }
@@ -144,7 +146,8 @@ impl Rows {
         requires held { NoRowHeld self.old }
         requires reads { self.old.ended ≡ false }
         requires room { 0 < length buf.old }
-        ensures gives { (got ≡ Got.Failed → ⊥) → Gives (got ≡ Got.End) (given got piece.now) self.old self.new result buf.new }
+        ensures gives { (got ≡ Got.Failed → ⊥)
+            → Gives (got ≡ Got.End) (given got piece.now) self.old self.new result buf.new }
         ensures ends { got ≡ Got.End → self.new.ended ≡ true }
         ensures goes_on { (got ≡ Got.End → ⊥) → self.new.ended ≡ false }
         ensures length { length buf.new ≡ length buf.old }

@@ -44,7 +44,15 @@ fn read_from<R: Read>(reader: &mut R, buf: &mut [u8]) -> Got
 }
 
 impl<R: Read + Send + Drop, W: Write + Send + Drop> Link for FileLink<R, W> {
-    ghost state = { λ l. record { left = None; sent = None; faults = l.tally.faults; idles = l.tally.idles; pauses = None; ended = l.tally.ended } };
+    ghost state = { λ l. record {
+      left = None;
+      sent = None;
+      faults = l.tally.faults;
+      idles = l.tally.idles;
+      pauses =
+          None;
+      ended = l.tally.ended;
+    } };
 
     fn read(&mut self, buf: &mut [u8]) -> Got {
         if self.tally.ended {

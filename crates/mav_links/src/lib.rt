@@ -1,13 +1,13 @@
 //! Links: a source and a sink in one, which a router, a drone or a station uses boxed.
 //!
-//! A [`Link`] promises what its two halves do, with one count of faults; [`write_prefix`] and [`write_link`] write
-//! all of some bytes, or stop at the first write that fails. [`MemLink`] is over memory and exact; [`FileLink`],
-//! [`TcpLink`] and [`UdpLink`] wrap files and sockets and promise nothing of what these hold. A `UdpLink` sends each frame
-//! in a datagram of its own, though many are written together.
+//! A [`Link`] promises what its two halves do, with one count of faults; [`write_prefix`] and [`write_link`] write all
+//! of some bytes, or stop at the first write that fails. [`MemLink`] is over memory and exact; [`FileLink`],
+//! [`TcpLink`] and [`UdpLink`] wrap files and sockets and promise nothing of what these hold. A `UdpLink` sends each
+//! frame in a datagram of its own, though many are written together.
 //!
-//! Sockets don't block: a [`WaitingStream`], over a [`Connection`], and a [`PeerSocket`] wait with a [`Watch`] until their socket has bytes or
-//! room, until Idle is due by their [`Pace`], or until their [`Bell`] rings, which says that something waits to be written.
-//! Nothing here allocates but the constructors.
+//! Sockets don't block: a [`WaitingStream`], over a [`Connection`], and a [`PeerSocket`] wait with a [`Watch`] until
+//! their socket has bytes or room, until Idle is due by their [`Pace`], or until their [`Bell`] rings, which says that
+//! something waits to be written. Nothing here allocates but the constructors.
 #![tactic(auto)]
 
 mod backlog;

@@ -40,8 +40,8 @@ impl Model for MemLink {
 
 impl MemLink {
     /// It reads `bytes` and has room for `room` bytes to write, at most `chunk` of either a call. Reads and writes are
-    /// each numbered from 0: it fails at those in `read_fails` and `write_fails`, and idles at the reads in `idles` that
-    /// aren't in `read_fails` too. It allocates all its memory here.
+    /// each numbered from 0: it fails at those in `read_fails` and `write_fails`, and idles at the reads in `idles`
+    /// that aren't in `read_fails` too. It allocates all its memory here.
     pub fn new(
         alloc: Global,
         bytes: Vec<u8>,
@@ -52,7 +52,8 @@ impl MemLink {
         write_fails: Vec<u64>,
     ) -> Result<MemLink, NoMemory>
         requires { 0 < chunk }
-        ensures start { IfOk result (λ link. link ≡ link_from_start bytes.items chunk read_fails.items idles.items room write_fails.items) }
+        ensures start { IfOk result (λ link. link ≡ link_from_start bytes.items chunk read_fails.items idles.items room
+            write_fails.items) }
     {
         let pauses = Vec::with_capacity(alloc, idles.len())?;
         let sink = MemSink::new(alloc, room, chunk, write_fails)?;

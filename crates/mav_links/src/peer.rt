@@ -25,8 +25,8 @@ pub enum Peer {
     Latest(Option<SocketAddr>),
 }
 
-/// A UDP socket. What the network answers a datagram is no fault: a read goes on waiting, and what was sent is lost, as on
-/// a radio. A datagram without a byte is nothing.
+/// A UDP socket. What the network answers a datagram is no fault: a read goes on waiting, and what was sent is lost,
+/// as on a radio. A datagram without a byte is nothing.
 #[derive(Drop)]
 pub struct PeerSocket<C: Clock + Drop> {
     socket: UdpSocket,

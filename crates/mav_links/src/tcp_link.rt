@@ -8,8 +8,8 @@ use mav_ports::{Got, Put};
 use std::io::{Read, Write};
 use std::sync::Arc;
 
-/// A link over any stream, as a TCP connection. It says nothing of the bytes, idles where a read of the stream would wait,
-/// and counts each other error as a fault. Over no stream, as one that couldn't be opened, each call fails.
+/// A link over any stream, as a TCP connection. It says nothing of the bytes, idles where a read of the stream would
+/// wait, and counts each other error as a fault. Over no stream, as one that couldn't be opened, each call fails.
 #[derive(Drop)]
 pub struct TcpLink<S: Read + Write + Waits + Drop> {
     stream: Option<S>,
@@ -29,7 +29,15 @@ impl<S: Read + Write + Waits + Drop> TcpLink<S> {
 }
 
 impl<S: Read + Write + Waits + Send + Drop> Link for TcpLink<S> {
-    ghost state = { λ l. record { left = None; sent = None; faults = l.tally.faults; idles = l.tally.idles; pauses = None; ended = l.tally.ended } };
+    ghost state = { λ l. record {
+      left = None;
+      sent = None;
+      faults = l.tally.faults;
+      idles = l.tally.idles;
+      pauses =
+          None;
+      ended = l.tally.ended;
+    } };
 
     fn read(&mut self, buf: &mut [u8]) -> Got {
         if self.tally.ended {

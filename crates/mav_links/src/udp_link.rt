@@ -16,9 +16,10 @@ use std::time::Clock;
 // As many bytes as a datagram can have.
 const MOST_BYTES: usize = 65_536;
 
-/// A link over a UDP socket. Each write sends one datagram, with the first of the frames given, or drops it if nobody is
-/// there to send to. The part of a datagram that doesn't fit the buffer of a read is kept for the next. It says nothing of
-/// the bytes; it idles if no byte came until Idle was due, and never fails, but over no socket at each call.
+/// A link over a UDP socket. Each write sends one datagram, with the first of the frames given, or drops it if nobody
+/// is there to send to. The part of a datagram that doesn't fit the buffer of a read is kept for the next. It says
+/// nothing of the bytes; it idles if no byte came until Idle was due, and never fails, but over no socket at each
+/// call.
 #[derive(Drop)]
 pub struct UdpLink<C: Clock + Drop> {
     socket: Option<PeerSocket<C>>,
@@ -124,7 +125,15 @@ fn send<C: Clock + Drop>(socket: &mut PeerSocket<C>, bytes: &[u8]) -> Put
 }
 
 impl<C: Clock + Send + Drop> Link for UdpLink<C> {
-    ghost state = { λ l. record { left = None; sent = None; faults = l.tally.faults; idles = l.tally.idles; pauses = None; ended = l.tally.ended } };
+    ghost state = { λ l. record {
+      left = None;
+      sent = None;
+      faults = l.tally.faults;
+      idles = l.tally.idles;
+      pauses =
+          None;
+      ended = l.tally.ended;
+    } };
 
     fn read(&mut self, buf: &mut [u8]) -> Got {
         if self.tally.ended {

@@ -14,7 +14,8 @@ use std::time::{Clock, Duration};
 /// A call looks so often whether it can be made.
 pub(crate) const MOST_LOOKS: u32 = 1_000_000;
 
-// A writer that asks for room before it writes is told so many bytes: what the system doesn't take of them at once is kept.
+// A writer that asks for room before it writes is told so many bytes: what the system doesn't take of them at once is
+// kept.
 const ROOM: usize = 8192;
 
 const MOST_KEPT: usize = 16_384;
@@ -22,10 +23,10 @@ const MOST_KEPT: usize = 16_384;
 // A peer that reads slowly may take bytes without a sign of it: it is looked so often, in milliseconds.
 const MOST_MILLIS_UNSEEN: u64 = 50;
 
-/// A TCP connection. A read in which no byte comes until Idle is due gives `WouldBlock`. A write waits for the peer, and
-/// fails once the peer has taken no byte for five seconds; while its one client hasn't come, it waits for it. A writer
-/// that asks for room first never waits: what the peer hasn't taken is kept, and passed on at later calls. It shuts its
-/// writing side down before it closes, so that its peer reads the end after all that was written.
+/// A TCP connection. A read in which no byte comes until Idle is due gives `WouldBlock`. A write waits for the peer,
+/// and fails once the peer has taken no byte for five seconds; while its one client hasn't come, it waits for it. A
+/// writer that asks for room first never waits: what the peer hasn't taken is kept, and passed on at later calls. It
+/// shuts its writing side down before it closes, so that its peer reads the end after all that was written.
 pub struct WaitingStream<C: Clock + Drop> {
     connection: Connection,
     watch: Watch,

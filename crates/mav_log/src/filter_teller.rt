@@ -50,7 +50,8 @@ fn system_of(bytes: &[u8]) -> u8
 
 impl Filter {
     pub(crate) fn new(alloc: Global, known: Dialect, sys: u8) -> Result<Filter, NoMemory>
-        ensures { IfOk result (λ filter. filter ≡ record { known = known; sys = sys; reader = no_bytes_held (extras_of known) }) }
+        ensures { IfOk result (λ filter. filter ≡ record
+            { known = known; sys = sys; reader = no_bytes_held (extras_of known) }) }
     {
         match LogScanner::of(alloc, &known) {
             Ok(reader) => Ok(Filter { known, sys, reader }),
@@ -67,8 +68,10 @@ impl Filter {
     fn keep_row(&mut self, size: usize, text: &mut Vec<u8>) -> Result<(), NoMemory>
         requires size { size ≤ length self.old.reader.bytes }
         requires row { IsRowOf self.old.reader.bytes size }
-        ensures text { OnOk result (text.new.items ≡ text.old.items ++ row_of self.old.sys (RowEvent (first_row self.old.reader.bytes))) }
-        ensures kept { OnOk result (self.new ≡ record self.old { reader = record self.old.reader { bytes = drop size self.old.reader.bytes } }) }
+        ensures text { OnOk result (text.new.items ≡ text.old.items ++ row_of self.old.sys
+            (RowEvent (first_row self.old.reader.bytes))) }
+        ensures kept { OnOk result (self.new ≡ record self.old
+            { reader = record self.old.reader { bytes = drop size self.old.reader.bytes } }) }
         ensures unkept { OnErr result (self.new ≡ self.old) }
     {
         let bytes = self.reader.bytes();

@@ -42,7 +42,8 @@ impl Model for Make {
 impl Make {
     pub(crate) fn new(alloc: Global, known: Dialect, start: u64) -> Result<Make, NoMemory>
         requires { start ≤ 4000000000000000 }
-        ensures { IfOk result (λ make. make ≡ record { known = known; start = start; reader = nothing_held (extras_of known) true; rows = 0 }) }
+        ensures { IfOk result (λ make. make ≡ record
+            { known = known; start = start; reader = nothing_held (extras_of known) true; rows = 0 }) }
     {
         match scanner_of(alloc, &known) {
             Ok(reader) => Ok(Make {
@@ -66,8 +67,10 @@ impl Make {
         requires size { size ≤ length self.old.reader.bytes }
         requires frame { take size self.old.reader.bytes ≡ encoding (first_packet self.old.reader) }
         requires few { self.old.rows ≤ most_load }
-        ensures text { OnOk result (text.new.items ≡ text.old.items ++ row_encoding (record { micros = self.old.start + 1000 * self.old.rows; frame = first_packet self.old.reader })) }
-        ensures made { OnOk result (self.new ≡ record self.old { reader = record self.old.reader { bytes = drop size self.old.reader.bytes }; rows = self.old.rows + 1 }) }
+        ensures text { OnOk result (text.new.items ≡ text.old.items ++ row_encoding
+            (record { micros = self.old.start + 1000 * self.old.rows; frame = first_packet self.old.reader })) }
+        ensures made { OnOk result (self.new ≡ record self.old
+            { reader = record self.old.reader { bytes = drop size self.old.reader.bytes }; rows = self.old.rows + 1 }) }
         ensures unmade { OnErr result (self.new ≡ self.old) }
     {
         let micros = self.start + INTERVAL * self.rows;

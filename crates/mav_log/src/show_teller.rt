@@ -34,7 +34,14 @@ impl Model for Show {
 
     ghost Value = { Showing };
 
-    ghost view = { λ s. record { known = s.templates; reader = s.reader; offset = s.offset; rows = s.rows; skipped = s.skipped } };
+    ghost view = { λ s. record {
+      known = s.templates;
+      reader = s.reader;
+      offset = s.offset;
+      rows = s.rows;
+      skipped =
+          s.skipped;
+    } };
 }
 
 // The time at the start of some bytes.
@@ -77,7 +84,8 @@ fn put_row_line(
 
 impl Show {
     pub(crate) fn new(alloc: Global, known: Dialect) -> Result<Show, NoMemory>
-        ensures { IfOk result (λ show. show ≡ record { known = known; reader = no_bytes_held (extras_of known); offset = 0; rows = 0; skipped = 0 }) }
+        ensures { IfOk result (λ show. show ≡ record
+            { known = known; reader = no_bytes_held (extras_of known); offset = 0; rows = 0; skipped = 0 }) }
     {
         let reader = match LogScanner::of(alloc, &known) {
             Ok(reader) => reader,
@@ -107,11 +115,18 @@ impl Show {
     fn show_row(&mut self, size: usize, text: &mut Vec<u8>) -> Result<(), NoMemory>
         requires size { size ≤ length self.old.reader.bytes }
         requires long { 8 ≤ length self.old.reader.bytes }
-        requires frame { frame_size_at (is_old_at true (drop 8 self.old.reader.bytes)) (drop 8 self.old.reader.bytes) ≤ length (drop 8 self.old.reader.bytes) }
+        requires frame { frame_size_at (is_old_at true (drop 8 self.old.reader.bytes))
+            (drop 8 self.old.reader.bytes) ≤ length (drop 8 self.old.reader.bytes) }
         requires counts { self.old.offset + size < 2 ^ 64 × self.old.rows + 1 < 2 ^ 64 }
-        ensures text { OnOk result (text.new.items ≡ text.old.items ++ row_line self.old.known self.old.offset (first_row self.old.reader.bytes)) }
+        ensures text { OnOk result (text.new.items ≡ text.old.items ++ row_line self.old.known self.old.offset
+            (first_row self.old.reader.bytes)) }
         ensures unshown { OnErr result (self.new ≡ self.old) }
-        ensures shown { OnOk result (self.new ≡ record self.old { reader = record self.old.reader { bytes = drop size self.old.reader.bytes }; offset = self.old.offset + size; rows = self.old.rows + 1 }) }
+        ensures shown { OnOk result (self.new ≡ record self.old {
+          reader = record self.old.reader { bytes = drop size self.old.reader.bytes };
+          offset = self.old.offset +
+              size;
+          rows = self.old.rows + 1;
+        }) }
     {
         put_row_line(
             &self.templates,
@@ -129,9 +144,14 @@ impl Show {
     fn show_skip(&mut self, why: Why, text: &mut Vec<u8>) -> Result<(), NoMemory>
         requires some { 0 < length self.old.reader.bytes }
         requires counts { self.old.offset + 1 < 2 ^ 64 × self.old.skipped + 1 < 2 ^ 64 }
-        ensures text { OnOk result (text.new.items ≡ text.old.items ++ skip_line self.old.offset (slice_index self.old.reader.bytes 0) why) }
+        ensures text { OnOk result (text.new.items ≡ text.old.items ++ skip_line self.old.offset
+            (slice_index self.old.reader.bytes 0) why) }
         ensures unshown { OnErr result (self.new ≡ self.old) }
-        ensures shown { OnOk result (self.new ≡ record self.old { reader = record self.old.reader { bytes = drop 1 self.old.reader.bytes }; offset = self.old.offset + 1; skipped = self.old.skipped + 1 }) }
+        ensures shown { OnOk result (self.new ≡ record self.old {
+          reader = record self.old.reader { bytes = drop 1 self.old.reader.bytes };
+          offset = self.old.offset + 1;
+          skipped = self.old.skipped + 1;
+        }) }
     {
         put_skip(self.offset, self.reader.bytes()[0], why, text)?;
         self.reader.consume(1);

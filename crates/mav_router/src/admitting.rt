@@ -80,7 +80,8 @@ fn route_by(
     requires to { port ≤ table.old.ports }
     ensures ports { table.new.ports ≡ table.old.ports }
     ensures ways { (learned : List Learned) → StandsFor table.old learned
-        → result ≡ ways_by (is_admitted admit) (is_unsigned frame.now) plain (ways_of table.old.ports learned port target) }
+        → result ≡ ways_by (is_admitted admit) (is_unsigned frame.now) plain
+        (ways_of table.old.ports learned port target) }
     ensures learned { (learned : List Learned) → StandsFor table.old learned
         → StandsFor table.new (learned ++ listed (learned_at (is_admitted admit) port frame.now.from)) }
 {
@@ -133,7 +134,9 @@ pub(crate) fn admit_frames(
     requires new { vec_len heads.old ≡ 0 }
     requires room { count ≤ vec_capacity heads.old }
     ensures held { AreHeld bytes.now heads.new.items }
-    ensures admits { AdmitsThese rules.now port (take count (packets_of (map (judged_of bytes.now) found.now))) stamps.old stamps.new table.old table.new (entries_of bytes.now heads.new.items) }
+    ensures admits { AdmitsThese rules.now port
+        (take count (packets_of (map (judged_of bytes.now) found.now))) stamps.old stamps.new table.old table.new
+        (entries_of bytes.now heads.new.items) }
 {
     for at in 0..count {
         let one = item_at(found, at);

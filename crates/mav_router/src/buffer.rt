@@ -43,7 +43,8 @@ fn read_after<L: Link>(link: &mut L, buf: &mut [u8], held: usize) -> Got
     requires { held + 4096 ≤ length buf.old }
     ensures within { GivesWithin result (slice_range buf.new held (held + 4096)) }
     ensures first { take held buf.new ≡ take held buf.old }
-    ensures bytes { (L.state link.old).left ≡ prepend_known (given result (slice_range buf.new held (held + 4096))) (L.state link.new).left }
+    ensures bytes { (L.state link.old).left ≡ prepend_known (given result (slice_range buf.new held (held + 4096)))
+        (L.state link.new).left }
     ensures faults { CountsFault result (L.state link.old).faults (L.state link.new).faults }
     ensures idles { (L.state link.new).idles ≡ idles_after result (L.state link.old).idles }
     ensures end { result ≡ Got.End → IsSpent (L.state link.new).left }
@@ -81,7 +82,8 @@ impl Buffer {
         requires { held ≤ 280 }
         ensures within { GivesWithin result (slice_range self.new held (held + 4096)) }
         ensures first { take held self.new ≡ take held self.old }
-        ensures bytes { (L.state link.old).left ≡ prepend_known (given result (slice_range self.new held (held + 4096))) (L.state link.new).left }
+        ensures bytes { (L.state link.old).left ≡ prepend_known (given result (slice_range self.new held (held + 4096)))
+            (L.state link.new).left }
         ensures faults { CountsFault result (L.state link.old).faults (L.state link.new).faults }
         ensures idles { (L.state link.new).idles ≡ idles_after result (L.state link.old).idles }
         ensures end { result ≡ Got.End → IsSpent (L.state link.new).left }

@@ -33,7 +33,8 @@ impl<'a, 't> Job for PortJob<'a, 't, BoxedLink> {
 
     ghost ready = { λ job. IsReady job.crew.turn.now job.crew.rules.now job.part × HadTurns job.part.side.lane 0 };
 
-    ghost ran = { λ old new. HasRun new.part.side.halt (λ b. (Link-box b).state b.value) old.crew.turn.now old.crew.rules.now old.crew.turns old.part new.part };
+    ghost ran = { λ old new. HasRun new.part.side.halt
+        (λ b. (Link-box b).state b.value) old.crew.turn.now old.crew.rules.now old.crew.turns old.part new.part };
 
     fn run<R: Wait>(&mut self, rt: &R) {
         run_part(rt, &self.crew, &mut self.part);

@@ -32,8 +32,8 @@ pub(crate) struct FoundFrame {
     pub(crate) judgement: Judgement,
 }
 
-/// Frames with their judgements, in their order. Their bytes stand as they will in the journal, whose page they become: many
-/// where they were read, so that they aren't copied, and few in memory of their size.
+/// Frames with their judgements, in their order. Their bytes stand as they will in the journal, whose page they
+/// become: many where they were read, so that they aren't copied, and few in memory of their size.
 pub(crate) struct FoundFrames {
     bytes: Vec<u8>,
     items: Vec<FoundFrame>,
@@ -78,7 +78,8 @@ pub(crate) fn item_at(items: &[FoundFrame], index: usize) -> FoundFrame
     items[index]
 }
 
-// Appends the frame of that length at the start of a scan, which is over the rest of these bytes, and takes it off there.
+// Appends the frame of that length at the start of a scan, which is over the rest of these bytes, and takes it off
+// there.
 fn find_frame(
     rules: &RouterRules<'_>,
     scan: &mut Scan<'_, '_>,
@@ -92,7 +93,8 @@ fn find_frame(
     requires inside { length scan.old.bytes ≤ length bytes.now }
     ensures scan { OnOk result (scan.new ≡ held_after scan.old (NextSpan.Frame size)) }
     ensures held { AreFound bytes.now items.old.items → AreFound bytes.now items.new.items }
-    ensures kept { OnOk result (KeepsFound rules.now (first_packet scan.old) (map (judged_of bytes.now) items.old.items) (map (judged_of bytes.now) items.new.items)) }
+    ensures kept { OnOk result (KeepsFound rules.now (first_packet scan.old) (map (judged_of bytes.now) items.old.items)
+        (map (judged_of bytes.now) items.new.items)) }
     ensures same { OnErr result ((scan.new ≡ scan.old) × (items.new.items ≡ items.old.items)) }
 {
     let start = bytes.len() - scan.bytes().len();
@@ -124,7 +126,8 @@ fn find_frames(
     ensures held { AreFound bytes.now items.new.items }
     ensures judged { All (IsJudged rules.now) (map (judged_of bytes.now) items.new.items) }
     ensures room { OnOk result (length scan.new.bytes < 280) }
-    ensures finds { OnOk result (FindsAll scan.old skipped.old scan.new skipped.new (packets_of (map (judged_of bytes.now) items.new.items))) }
+    ensures finds { OnOk result (FindsAll scan.old skipped.old scan.new skipped.new
+        (packets_of (map (judged_of bytes.now) items.new.items))) }
     ensures unkept { OnErr result (FindsUntaken scan.old skipped.old) }
 {
     'finding: loop {
@@ -149,7 +152,8 @@ fn find_all<'b>(
     ensures ended { reader.new.ended ≡ reader.old.ended }
     ensures held { AreFound bytes.now items.new.items }
     ensures judged { All (IsJudged rules.now) (map (judged_of bytes.now) items.new.items) }
-    ensures finds { OnOk result (FindsAll (record reader.old { bytes = bytes.now }) skipped.old reader.new skipped.new (packets_of (map (judged_of bytes.now) items.new.items))) }
+    ensures finds { OnOk result (FindsAll (record reader.old { bytes = bytes.now }) skipped.old reader.new skipped.new
+        (packets_of (map (judged_of bytes.now) items.new.items))) }
     ensures unkept { OnErr result (FindsUntaken (record reader.old { bytes = bytes.now }) skipped.old) }
 {
     let mut scan = reader.scan(bytes);
@@ -211,7 +215,8 @@ impl FoundFrames {
         judgement: Judgement,
         room: usize,
     ) -> Result<(), NoMemory>
-        ensures added { OnOk result (self.new ≡ self.old ++ (record { frame = frame.now; judgement = judgement }) ∷ []) }
+        ensures added { OnOk result (self.new ≡ self.old ++
+            (record { frame = frame.now; judgement = judgement }) ∷ []) }
         ensures unchanged { OnErr result (self.new ≡ self.old) }
     {
         make_room(&mut self.bytes, &mut self.items, room)?;
@@ -245,7 +250,8 @@ impl FoundFrames {
         Ok(())
     }
 
-    // Takes frames that were found in so many first bytes of a buffer, and if they are many the buffer's memory with them.
+    // Takes frames that were found in so many first bytes of a buffer, and if they are many the buffer's memory with
+    // them.
     fn hold(
         &mut self,
         buf: &mut Buffer,
@@ -269,8 +275,8 @@ impl FoundFrames {
         Ok(())
     }
 
-    /// Finds all frames in so many first bytes of a buffer, which are those that a port's reader held and those of a read
-    /// after them, with their judgements. What is left is held, and bytes that are skipped are counted.
+    /// Finds all frames in so many first bytes of a buffer, which are those that a port's reader held and those of a
+    /// read after them, with their judgements. What is left is held, and bytes that are skipped are counted.
     pub(crate) fn find(
         &mut self,
         rules: &RouterRules<'_>,
@@ -282,7 +288,9 @@ impl FoundFrames {
         requires within { size ≤ 4376 }
         ensures ended { reader.new.ended ≡ reader.old.ended }
         ensures judged { OnOk result (All (IsJudged rules.now) self.new) }
-        ensures finds { OnOk result (FindsAll (record reader.old { bytes = take size buf.old }) skipped.old reader.new skipped.new (packets_of self.new)) }
+        ensures finds { OnOk result (FindsAll
+            (record reader.old { bytes = take size buf.old }) skipped.old reader.new skipped.new
+            (packets_of self.new)) }
         ensures unkept { OnErr result (FindsUntaken (record reader.old { bytes = take size buf.old }) skipped.old) }
     {
         let mut items = mem::replace(&mut self.next, Vec::new(self.alloc));
@@ -332,7 +340,8 @@ impl FoundFrames {
         requires few { port ≤ 8 }
         requires within { count ≤ length self.old }
         requires judged { All (IsJudged rules.now) self.old }
-        ensures admits { IfOk result (λ page. AdmitsThese rules.now port (take count (packets_of self.old)) stamps.old stamps.new table.old table.new page) }
+        ensures admits { IfOk result (λ page. AdmitsThese rules.now port
+            (take count (packets_of self.old)) stamps.old stamps.new table.old table.new page) }
         ensures unchanged { OnErr result ((stamps.new ≡ stamps.old) × (table.new ≡ table.old)) }
     {
         self.heads.clear();

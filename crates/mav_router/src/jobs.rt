@@ -43,7 +43,8 @@ fn run_jobs<R: Threads + Wait + Sync, J: Job>(rt: &R, jobs: &mut [J])
 pub(crate) fn run_all<R: Threads + Wait + Sync, J: Job>(rt: &R, jobs: &mut Vec<J>)
     requires ready { All J.ready jobs.old.items }
     ensures length { length jobs.new.items ≡ length jobs.old.items }
-    ensures each { (k : ℕ) (b c : _) → slice_get jobs.old.items k ≡ Some b → slice_get jobs.new.items k ≡ Some c → J.ran b c }
+    ensures each { (k : ℕ) (b c : _) → slice_get jobs.old.items k ≡ Some b → slice_get jobs.new.items k ≡ Some c
+        → J.ran b c }
 {
     run_jobs(rt, jobs.as_mut_slice());
 }

@@ -40,7 +40,8 @@ pub(crate) fn new_stock<L>(
     count: usize,
 ) -> Result<Stock<L>, NoMemory>
     requires { count ≤ 8 }
-    ensures { IfOk result (λ stock. (key : List ℕ) → IsStocked (record { key = key; known = known.now; ports = count; plain = plain }) stock) }
+    ensures { IfOk result (λ stock. (key : List ℕ)
+        → IsStocked (record { key = key; known = known.now; ports = count; plain = plain }) stock) }
 {
     Ok(Stock {
         lanes: new_lanes(alloc, known, plain, count)?,

@@ -168,8 +168,8 @@ impl Journal {
         }
     }
 
-    /// The bytes of frames that go out at the port, of the entries from an index on: of the next one in a page, and of those
-    /// after it that stand together with it. Moves the index past the entries that were looked through.
+    /// The bytes of frames that go out at the port, of the entries from an index on: of the next one in a page, and of
+    /// those after it that stand together with it. Moves the index past the entries that were looked through.
     pub(crate) fn run(&self, port: u8, from: &mut usize) -> Run<'_>
         requires from { 1 ≤ port }
         requires to { port ≤ 8 }
@@ -188,8 +188,8 @@ impl Journal {
         run
     }
 
-    /// Appends entries of frames that were found at a port and judged by these rules, in their order, as many as there may
-    /// be. They are a page of their own; so it takes none until those before it are sealed.
+    /// Appends entries of frames that were found at a port and judged by these rules, in their order, as many as there
+    /// may be. They are a page of their own; so it takes none until those before it are sealed.
     pub(crate) fn admit_found(
         &mut self,
         rules: &RouterRules<'_>,
@@ -206,7 +206,8 @@ impl Journal {
         requires ports { table.old.ports ≡ rules.now.ports }
         ensures admits { Admits result port self.old self.new (packets_of found.old) }
         ensures ports { table.new.ports ≡ rules.now.ports }
-        ensures after { IsAfter rules.now stamps.old table.old self.old → IsAfter rules.now stamps.new table.new self.new }
+        ensures after { IsAfter rules.now stamps.old table.old self.old
+            → IsAfter rules.now stamps.new table.new self.new }
         ensures few { length self.new ≤ 1_000_000 }
         ensures fault { IfErr result (λ fault. IsSwitchFault fault self.new) }
     {
@@ -225,8 +226,8 @@ impl Journal {
         Ok(())
     }
 
-    /// Seals the entries that were appended since the last time, so that they can be shared. If memory is out they stay as
-    /// they are.
+    /// Seals the entries that were appended since the last time, so that they can be shared. If memory is out they
+    /// stay as they are.
     pub(crate) fn seal(&mut self)
         ensures { self.new ≡ self.old }
     {

@@ -18,7 +18,8 @@ pub struct Judgement {
 
 // The node that a frame is for.
 fn target(known: &Dialect, frame: &RawFrame<'_>) -> Name
-    ensures { (key : List ℕ) (ports : ℕ) (plain : _) → result ≡ target_by (record { key = key; known = known.now; ports = ports; plain = plain }) frame.now }
+    ensures { (key : List ℕ) (ports : ℕ) (plain : _)
+        → result ≡ target_by (record { key = key; known = known.now; ports = ports; plain = plain }) frame.now }
 {
     let Some(layout) = known.get(frame.id()) else {
         return Name { sys: 0, comp: 0 };

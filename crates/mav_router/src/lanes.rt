@@ -15,8 +15,8 @@ use crate::{Switch, SwitchFault};
 use mav_links::Link;
 use mav_ports::Got;
 
-/// Reads a port once, and returns how many bytes of the buffer are to be looked at: those that its reader holds, and those
-/// that came after them. Returns nothing if there is nothing to do.
+/// Reads a port once, and returns how many bytes of the buffer are to be looked at: those that its reader holds, and
+/// those that came after them. Returns nothing if there is nothing to do.
 pub(crate) fn read_lane<L: Link>(lane: &mut Lane, link: &mut L, buf: &mut Buffer) -> Option<usize>
     requires live { lane.old.ended ≡ false }
     requires fine { lane.old.failed ≡ false }

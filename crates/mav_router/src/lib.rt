@@ -1,13 +1,14 @@
 //! A router of MAVLink packets between links, on one thread or with a thread for each port.
 //!
-//! A [`Switch`] admits the frames that come in at its ports, keeps an [`Entry`] of each in its [`Journal`], and gives each
-//! port the frames that go out there; all of it follows from the journal (MAVLink guide, Routing). [`route_one`] and
-//! [`route_all`] run one over boxed links that may fail at any call, and return the journal and what became of each port,
-//! or at a fault the journal so far. They never call a port again that failed, never send a packet back to its own port,
-//! and put frames without a signature block through open ports alone.
+//! A [`Switch`] admits the frames that come in at its ports, keeps an [`Entry`] of each in its [`Journal`], and gives
+//! each port the frames that go out there; all of it follows from the journal (MAVLink guide, Routing). [`route_one`]
+//! and [`route_all`] run one over boxed links that may fail at any call, and return the journal and what became of
+//! each port, or at a fault the journal so far. They never call a port again that failed, never send a packet back to
+//! its own port, and put frames without a signature block through open ports alone.
 //!
-//! With a thread for each port (`threads`) the switch is behind a `turnstile`: each thread reads its own port and writes
-//! to it (`running`), and has the switch admit in one turn the frames that it found and judged before (`turns`).
+//! With a thread for each port (`threads`) the switch is behind a `turnstile`: each thread reads its own port and
+//! writes to it (`running`), and has the switch admit in one turn the frames that it found and judged before
+//! (`turns`).
 #![tactic(auto)]
 
 mod admitting;

@@ -61,7 +61,9 @@ fn first_to(heads: &[Head], port: u8, from: usize) -> usize
     requires within { from ≤ length heads.now }
     ensures from { from ≤ result }
     ensures within { result ≤ length heads.now }
-    ensures none { (bytes : List ℕ) → frames_to port (take result (entries_of bytes heads.now)) ≡ frames_to port (take from (entries_of bytes heads.now)) }
+    ensures none { (bytes : List ℕ)
+        → frames_to port (take result (entries_of bytes heads.now)) ≡ frames_to port
+        (take from (entries_of bytes heads.now)) }
     ensures goes { (head : Head) → slice_get heads.now result ≡ Some head → has_port head.outcome.ways port ≡ true }
 {
     let mut index = from;
@@ -75,8 +77,8 @@ fn first_to(heads: &[Head], port: u8, from: usize) -> usize
     index
 }
 
-// Where the frame of an entry stands that goes out at the port, with those after it that go out there too and stand together
-// with it. `end` is set to the index after them.
+// Where the frame of an entry stands that goes out at the port, with those after it that go out there too and stand
+// together with it. `end` is set to the index after them.
 fn run_at(heads: &[Head], port: u8, first: usize, end: &mut usize) -> Span
     requires from { 1 ≤ port }
     requires to { port ≤ 8 }
@@ -144,8 +146,8 @@ impl Page {
         (head.outcome, frame_in(&self.bytes, head.span))
     }
 
-    /// The bytes of frames that go out at the port, of the entries from `at` on: of the next one, and of those after it that
-    /// stand together with it. Moves `at` past the entries that were looked through.
+    /// The bytes of frames that go out at the port, of the entries from `at` on: of the next one, and of those after
+    /// it that stand together with it. Moves `at` past the entries that were looked through.
     pub(crate) fn run(&self, port: u8, at: &mut usize) -> Run<'_>
         requires from { 1 ≤ port }
         requires to { port ≤ 8 }

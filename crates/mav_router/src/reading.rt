@@ -57,7 +57,8 @@ pub(crate) fn read_ready<L: Link>(
     ensures output { (frames : List Packet) (first : LinkState)
         → Output frames first (L.state link.old) lane.old → Output frames first (L.state link.new) lane.new }
     ensures turns { (least : ℕ) → least ≤ most → HadBetween least most lane.old → HadBetween least most lane.new }
-    ensures turned { is_asked ≡ true → (least : ℕ) → least < most → HadBetween least most lane.old → HadBetween (least + 1) most lane.new }
+    ensures turned { is_asked ≡ true → (least : ℕ) → least < most → HadBetween least most lane.old
+        → HadBetween (least + 1) most lane.new }
 {
     if !has_turns(lane, most) {
         return Ok(false);

@@ -23,7 +23,8 @@ fn wake_by<L: Link>(link: &mut L, bell: &Arc<Bell>, is_own: bool)
 // Has what would end the rest of any other port end that of this one, which has this bell.
 fn wake_one<L: Link>(links: &mut [L], bell: &Arc<Bell>, port: usize)
     ensures length { length links.new ≡ length links.old }
-    ensures kept { (switch : SwitchState) (lanes : List Lane) → RunGoesOn L.state switch switch links.old links.new lanes lanes }
+    ensures kept { (switch : SwitchState) (lanes : List Lane)
+        → RunGoesOn L.state switch switch links.old links.new lanes lanes }
 {
     for at in 0..links.len() {
         wake_by(&mut links[at], bell, at == port);
@@ -34,7 +35,8 @@ fn wake_one<L: Link>(links: &mut [L], bell: &Arc<Bell>, port: usize)
 fn join_rest<L: Link>(links: &mut [L], port: usize)
     requires { port < length links.old }
     ensures length { length links.new ≡ length links.old }
-    ensures kept { (switch : SwitchState) (lanes : List Lane) → RunGoesOn L.state switch switch links.old links.new lanes lanes }
+    ensures kept { (switch : SwitchState) (lanes : List Lane)
+        → RunGoesOn L.state switch switch links.old links.new lanes lanes }
 {
     let Some(bell) = links[port].bell() else {
         return;
@@ -45,7 +47,8 @@ fn join_rest<L: Link>(links: &mut [L], port: usize)
 /// Has a rest of any port end by what happens at any other, if they are read at all.
 pub(crate) fn join_rests<L: Link>(links: &mut [L], turns: u64)
     ensures length { length links.new ≡ length links.old }
-    ensures kept { (switch : SwitchState) (lanes : List Lane) → RunGoesOn L.state switch switch links.old links.new lanes lanes }
+    ensures kept { (switch : SwitchState) (lanes : List Lane)
+        → RunGoesOn L.state switch switch links.old links.new lanes lanes }
 {
     if turns == 0 {
         return;
@@ -59,7 +62,8 @@ pub(crate) fn join_rests<L: Link>(links: &mut [L], turns: u64)
 pub(crate) fn is_ready_at<L: Link>(links: &mut [L], at: usize) -> bool
     requires { at < length links.old }
     ensures length { length links.new ≡ length links.old }
-    ensures kept { (switch : SwitchState) (lanes : List Lane) → RunGoesOn L.state switch switch links.old links.new lanes lanes }
+    ensures kept { (switch : SwitchState) (lanes : List Lane)
+        → RunGoesOn L.state switch switch links.old links.new lanes lanes }
 {
     links[at].is_ready()
 }
@@ -68,7 +72,8 @@ pub(crate) fn is_ready_at<L: Link>(links: &mut [L], at: usize) -> bool
 pub(crate) fn rest_unless<L: Link>(any: bool, links: &mut [L], at: usize)
     requires { at < length links.old }
     ensures length { length links.new ≡ length links.old }
-    ensures kept { (switch : SwitchState) (lanes : List Lane) → RunGoesOn L.state switch switch links.old links.new lanes lanes }
+    ensures kept { (switch : SwitchState) (lanes : List Lane)
+        → RunGoesOn L.state switch switch links.old links.new lanes lanes }
 {
     if any {
         return;

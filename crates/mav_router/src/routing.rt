@@ -175,7 +175,8 @@ fn route_in<L: Link>(
     requires turns { plan.turns ≤ 1_000_000_000 }
     ensures rules { switch.new.rules ≡ switch.old.rules }
     ensures ended { (key : List ℕ) (ports : ℕ)
-        → PortsEnded result L.state (rules_of key known.now plan.plain ports) plan.turns links.old links.new switch.new.journal }
+        → PortsEnded result L.state (rules_of key known.now plan.plain ports) plan.turns links.old links.new
+        switch.new.journal }
 {
     let Ok(mut lanes) = new_lanes(alloc, known, plan.plain, links.len()) else {
         return Err(SwitchFault::NoMemory);

@@ -6,8 +6,8 @@ use link_table::Ways;
 use mav_sign::Key;
 use std::marker::Model;
 
-/// What a router goes by: the key of its links, the messages that it knows, how many ports it has, and which of them are
-/// open to frames without a signature block and to frames of MAVLink 1.
+/// What a router goes by: the key of its links, the messages that it knows, how many ports it has, and which of them
+/// are open to frames without a signature block and to frames of MAVLink 1.
 #[derive(Drop)]
 pub struct RouterRules<'a> {
     pub key: Key,

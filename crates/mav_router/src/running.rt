@@ -32,10 +32,14 @@ fn read_part<'a, R: Wait, L: Link>(
     requires fine { part.old.side.lane.failed ≡ false }
     ensures ready { IsReady crew.now.turn.now crew.now.rules.now part.new }
     ensures port { part.new.port ≡ part.old.port }
-    ensures so_far { OnOk result ((first : LinkState) → PartSoFar L.state crew.now.rules.now first part.old → PartSoFar L.state crew.now.rules.now first part.new) }
-    ensures stopped { OnErr result ((first : LinkState) → PartSoFar L.state crew.now.rules.now first part.old → PartStopped L.state crew.now.rules.now first part.new) }
+    ensures so_far { OnOk result ((first : LinkState) → PartSoFar L.state crew.now.rules.now first part.old
+        → PartSoFar L.state crew.now.rules.now first part.new) }
+    ensures stopped { OnErr result
+        ((first : LinkState) → PartSoFar L.state crew.now.rules.now first part.old
+        → PartStopped L.state crew.now.rules.now first part.new) }
     ensures fault { IfErr result (λ fault. IsSwitchFault fault (entries_in part.new.seat.seen)) }
-    ensures turned { (turns : ℕ) → turns + 1 < 2 ^ 64 → HadTurns part.old.side.lane turns → HadTurns part.new.side.lane (turns + 1) }
+    ensures turned { (turns : ℕ) → turns + 1 < 2 ^ 64 → HadTurns part.old.side.lane turns
+        → HadTurns part.new.side.lane (turns + 1) }
 {
     let side = &mut part.side;
     let Some(count) = read_lane(&mut side.lane, &mut side.link, &mut side.room.buffer) else {
@@ -112,7 +116,8 @@ fn write_news<'a, R: Wait, L: Link>(
     write_part(rt, crew, part);
 }
 
-// Whether a read gave as many bytes as it asked for, by the counts of bytes before and after it: then more are likely there.
+// Whether a read gave as many bytes as it asked for, by the counts of bytes before and after it: then more are likely
+// there.
 fn is_whole_piece(before: u64, after: u64) -> bool {
     after - before.min(after) >= PIECE as u64
 }

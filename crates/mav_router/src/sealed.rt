@@ -79,7 +79,8 @@ impl SealedPage {
     #[inline]
     pub(crate) fn look(&self, at: usize) -> (Outcome, RawFrame<'_>)
         requires { at < length self.now.entries }
-        ensures { (entry : Entry) → slice_get self.now.entries at ≡ Some entry → result ≡ (outcome_of entry, entry.frame) }
+        ensures { (entry : Entry) → slice_get self.now.entries at ≡ Some entry
+            → result ≡ (outcome_of entry, entry.frame) }
     {
         self.page.look(at)
     }
@@ -91,7 +92,8 @@ impl SealedPage {
         requires inside { IsIn self.now from.old }
         ensures within { from.new ≤ end_of_page self.now }
         ensures moves { from.old < from.new }
-        ensures run { (journal : List Entry) → StandsIn journal self.now → IsRun port journal from.old from.new result.bytes.now }
+        ensures run { (journal : List Entry) → StandsIn journal self.now
+            → IsRun port journal from.old from.new result.bytes.now }
     {
         let mut at = *from - self.start;
         let run = self.page.run(port, &mut at);

@@ -43,8 +43,8 @@ impl SharedPages {
         self.pages.clear();
     }
 
-    /// Shares pages from a number on, as many as there is room for, in place of those shared before. Returns whether there
-    /// are no more.
+    /// Shares pages from a number on, as many as there is room for, in place of those shared before. Returns whether
+    /// there are no more.
     pub(crate) fn take(&mut self, sealed: &[SealedPage], from: usize) -> bool
         requires { from ≤ length sealed.now }
         ensures { SharesFrom sealed.now from self.new }

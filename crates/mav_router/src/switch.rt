@@ -92,7 +92,8 @@ impl<'a> Switch<'a> {
     ) -> Result<Switch<'a>, NoMemory>
         requires from { 1 ≤ ports }
         requires to { ports ≤ 8 }
-        ensures rules { IfOk result (λ s. s.rules ≡ record { key = key; known = known.now; ports = ports; plain = plain }) }
+        ensures rules { IfOk result (λ s. s.rules ≡ record
+            { key = key; known = known.now; ports = ports; plain = plain }) }
         ensures journal { IfOk result (λ s. s.journal ≡ []) }
         ensures given { IfOk result (λ s. (port : ℕ) → given_to s port ≡ []) }
     {
@@ -117,8 +118,10 @@ impl<'a> Switch<'a> {
     pub fn admit(&mut self, port: u8, frame: &Frame) -> Result<Admit, SwitchFault>
         requires from { 1 ≤ port }
         requires to { port ≤ self.old.rules.ports }
-        ensures verdict { IfOk result (λ verdict. verdict ≡ admit_after self.old.rules self.old.journal port frame.now) }
-        ensures journal { OnOk result (self.new.journal ≡ self.old.journal ++ entry_after self.old.rules self.old.journal port frame.now ∷ []) }
+        ensures verdict { IfOk result (λ verdict. verdict ≡ admit_after self.old.rules self.old.journal port
+            frame.now) }
+        ensures journal { OnOk result (self.new.journal ≡ self.old.journal ++ entry_after self.old.rules
+            self.old.journal port frame.now ∷ []) }
         ensures same { (self.new.rules ≡ self.old.rules) × (self.new.seen ≡ self.old.seen) }
         ensures given { (other : ℕ) → given_to self.new other ≡ given_to self.old other }
         ensures unchanged { OnErr result (self.new.journal ≡ self.old.journal) }
@@ -176,7 +179,8 @@ impl<'a> Switch<'a> {
         ensures given { given_to self.new port ≡ given_to self.old port ++ listed result }
         ensures none { IfNone result (given_to self.new port ≡ frames_to port self.old.journal) }
         ensures same { (self.new.rules ≡ self.old.rules) × (self.new.journal ≡ self.old.journal) }
-        ensures others { (other : ℕ) → 1 ≤ other → (other ≡ port → ⊥) → given_to self.new other ≡ given_to self.old other }
+        ensures others { (other : ℕ) → 1 ≤ other → (other ≡ port → ⊥)
+            → given_to self.new other ≡ given_to self.old other }
     {
         let Some(index) = self.next(port) else {
             return None;
@@ -192,7 +196,8 @@ impl<'a> Switch<'a> {
         ensures within { IfSome result (λ index. index < length self.old.journal) }
         ensures none { IfNone result (given_to self.new port ≡ frames_to port self.old.journal) }
         ensures same { (self.new.rules ≡ self.old.rules) × (self.new.journal ≡ self.old.journal) }
-        ensures others { (other : ℕ) → 1 ≤ other → (other ≡ port → ⊥) → given_to self.new other ≡ given_to self.old other }
+        ensures others { (other : ℕ) → 1 ≤ other → (other ≡ port → ⊥)
+            → given_to self.new other ≡ given_to self.old other }
         ensures moves { OnSome result ((slice_index self.old.seen (port - 1) < slice_index self.new.seen (port - 1))
             × (slice_index self.new.seen (port - 1) ≤ length self.old.journal)) }
     {
@@ -224,7 +229,8 @@ impl<'a> Switch<'a> {
         requires within { seen ≤ length self.old.journal }
         ensures same { (self.new.rules ≡ self.old.rules) × (self.new.journal ≡ self.old.journal) }
         ensures given { given_to self.new port ≡ frames_to port (take seen self.old.journal) }
-        ensures others { (other : ℕ) → 1 ≤ other → (other ≡ port → ⊥) → given_to self.new other ≡ given_to self.old other }
+        ensures others { (other : ℕ) → 1 ≤ other → (other ≡ port → ⊥)
+            → given_to self.new other ≡ given_to self.old other }
     {
         self.seen[usize::from(port - 1)] = seen;
     }

@@ -34,8 +34,10 @@ fn serve_ports<'a, 't, R: Threads + Wait + Sync>(
     requires stocked { IsStocked crew.now.rules.now stock.old }
     requires ports { crew.now.rules.now.ports ≡ length ports.old.items }
     requires to { crew.now.rules.now.ports ≤ 8 }
-    requires seats { seats.old.items ≡ replicate crew.now.rules.now.ports (opened crew.now.turn.now.id (history_of crew.now.rules.now [])) }
-    ensures served { OnOk result (HasServed state crew.now.turn.now crew.now.rules.now crew.now.turns ports.old.items stock.new.sides.items seats.new.items) }
+    requires seats { seats.old.items ≡ replicate crew.now.rules.now.ports
+        (opened crew.now.turn.now.id (history_of crew.now.rules.now [])) }
+    ensures served { OnOk result (HasServed state crew.now.turn.now crew.now.rules.now crew.now.turns ports.old.items
+        stock.new.sides.items seats.new.items) }
     ensures moved { OnOk result (vec_len ports.new ≡ 0) }
     ensures room { OnOk result (vec_capacity ports.new ≡ vec_capacity ports.old) }
     ensures kept { OnErr result (ports.new.items ≡ ports.old.items) }
@@ -56,7 +58,8 @@ fn finish<L: Link>(
     turns: u64,
 ) -> Result<RouteEnd, RouteFault>
     requires few { vec_len sides.old ≤ 8 }
-    requires within { (k : ℕ) (side : _) → slice_get sides.old.items k ≡ Some side → side.taken ≤ length switch.journal }
+    requires within { (k : ℕ) (side : _) → slice_get sides.old.items k ≡ Some side
+        → side.taken ≤ length switch.journal }
     requires new { (vec_len ends ≡ 0) × (vec_len ports.old ≡ 0) }
     requires end_room { vec_len sides.old ≤ vec_capacity ends }
     requires room { vec_len sides.old ≤ vec_capacity ports.old }
@@ -162,7 +165,8 @@ fn route_stocked<R: Threads + Wait + Sync>(
     )
 }
 
-/// Routes between the ports with a thread for each. All memory but that of the switch is allocated before a link is moved.
+/// Routes between the ports with a thread for each. All memory but that of the switch is allocated before a link is
+/// moved.
 pub(crate) fn route_threads<R: Threads + Wait + Sync>(
     rt: &R,
     alloc: Global,

@@ -37,8 +37,8 @@ pub(crate) fn admit_found<'a, R: Wait>(
     admitted
 }
 
-/// Shares in a turn the pages of the journal that have entries from an index on, as many as there is room for, and returns
-/// whether no more are sealed.
+/// Shares in a turn the pages of the journal that have entries from an index on, as many as there is room for, and
+/// returns whether no more are sealed.
 pub(crate) fn share_waiting<'a, R: Wait>(
     rt: &R,
     crew: &Crew<'a, '_>,

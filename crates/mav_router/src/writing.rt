@@ -87,8 +87,10 @@ fn pass_page<L: Link>(
 )
     requires from { 1 ≤ port }
     requires to { port ≤ 8 }
-    ensures looks { (journal : List Entry) → StandsIn journal page.now → page.now.start ≤ from.old → from.old ≤ length journal
-        → LooksOn port journal from.old from.new (L.state link.old) (L.state link.new) lane.old lane.new batch.old batch.new }
+    ensures looks { (journal : List Entry) → StandsIn journal page.now → page.now.start ≤ from.old
+        → from.old ≤ length journal
+        → LooksOn port journal from.old from.new (L.state link.old)
+        (L.state link.new) lane.old lane.new batch.old batch.new }
     ensures all { page.now.start ≤ from.old → end_of_page page.now ≤ from.new }
     ensures keeps { KeepsInput (L.state link.old) (L.state link.new) lane.old lane.new }
 {
@@ -115,7 +117,8 @@ pub(crate) fn write_pages<L: Link>(
     requires to { port ≤ 8 }
     ensures writes { (journal : List Entry) → from.old ≤ length journal → IsWindow journal from.old shared.now
         → Writes port journal from.old from.new (L.state link.old) (L.state link.new) lane.old lane.new }
-    ensures all { (journal : List Entry) → (window : IsWindow journal from.old shared.now) → end_of_window window ≤ from.new }
+    ensures all { (journal : List Entry) → (window : IsWindow journal from.old shared.now)
+        → end_of_window window ≤ from.new }
     ensures keeps { KeepsInput (L.state link.old) (L.state link.new) lane.old lane.new }
 {
     batch.clear();
@@ -126,8 +129,8 @@ pub(crate) fn write_pages<L: Link>(
     flush(batch, lane, link);
 }
 
-/// Writes what the entries of a journal from an index on send to a port, unless it failed or fails, and moves the index to
-/// its end.
+/// Writes what the entries of a journal from an index on send to a port, unless it failed or fails, and moves the
+/// index to its end.
 pub(crate) fn write_entries<L: Link>(
     journal: &Journal,
     port: u8,
@@ -162,7 +165,8 @@ pub(crate) fn write_port<L: Link>(
     requires from { 1 ≤ port }
     requires to { port ≤ switch.old.rules.ports }
     ensures same { (switch.new.rules ≡ switch.old.rules) × (switch.new.journal ≡ switch.old.journal) }
-    ensures others { (other : ℕ) → 1 ≤ other → (other ≡ port → ⊥) → given_to switch.new other ≡ given_to switch.old other }
+    ensures others { (other : ℕ) → 1 ≤ other → (other ≡ port → ⊥)
+        → given_to switch.new other ≡ given_to switch.old other }
     ensures keeps { KeepsInput (L.state link.old) (L.state link.new) lane.old lane.new }
     ensures output { (first : LinkState) → Output (given_to switch.old port) first (L.state link.old) lane.old
         → Output (given_to switch.new port) first (L.state link.new) lane.new }

@@ -68,8 +68,8 @@ fn write_entries_now<L: Link>(
     flush(batch, lane, link);
 }
 
-/// Writes what is waiting for a port, unless it failed or fails, as long as that needn't wait. The port is asked for room
-/// also where nothing is: what it keeps of earlier writes it passes on then.
+/// Writes what is waiting for a port, unless it failed or fails, as long as that needn't wait. The port is asked for
+/// room also where nothing is: what it keeps of earlier writes it passes on then.
 pub(crate) fn write_port_now<L: Link>(
     switch: &mut Switch<'_>,
     lane: &mut Lane,
@@ -80,7 +80,8 @@ pub(crate) fn write_port_now<L: Link>(
     requires from { 1 ≤ port }
     requires to { port ≤ switch.old.rules.ports }
     ensures same { (switch.new.rules ≡ switch.old.rules) × (switch.new.journal ≡ switch.old.journal) }
-    ensures others { (other : ℕ) → 1 ≤ other → (other ≡ port → ⊥) → given_to switch.new other ≡ given_to switch.old other }
+    ensures others { (other : ℕ) → 1 ≤ other → (other ≡ port → ⊥)
+        → given_to switch.new other ≡ given_to switch.old other }
     ensures keeps { KeepsInput (L.state link.old) (L.state link.new) lane.old lane.new }
     ensures output { (first : LinkState) → Output (given_to switch.old port) first (L.state link.old) lane.old
         → Output (given_to switch.new port) first (L.state link.new) lane.new }

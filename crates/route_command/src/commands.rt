@@ -58,9 +58,9 @@ fn end_of_fault(fault: &RouteFault) -> RunEnd
     }
 }
 
-/// Routes between the ports by the router, with a thread for each or with one, and writes what came in and what became of
-/// each port. Nothing is written of a run that stops because its journal is full, or because memory is out.
-/// Writes no status line.
+/// Routes between the ports by the router, with a thread for each or with one, and writes what came in and what became
+/// of each port. Nothing is written of a run that stops because its journal is full, or because memory is out. Writes
+/// no status line.
 pub fn route<T: Router, K: Sink>(
     router: &T,
     alloc: Global,
@@ -73,7 +73,8 @@ pub fn route<T: Router, K: Sink>(
     requires ready { T.ready }
     requires can { CanRoute (length ports.old.items) plan.turns }
     ensures routes { RoutesBeforeStatus (ports_of state
-        (rules_of key.now known.now plan.plain (length ports.old.items)) (if T.alone then true else plan.one) plan.turns ports.old.items ports.new.items)
+        (rules_of key.now known.now plan.plain (length ports.old.items))
+        (if T.alone then true else plan.one) plan.turns ports.old.items ports.new.items)
         (result_err result) (K.faults out.old) (K.faults out.new) (K.sent out.old) (K.sent out.new) }
     ensures sound { ¬ IsErrOf result RunEnd.WriteFault → K.faults out.new ≡ K.faults out.old }
 {

@@ -39,7 +39,8 @@ fn put_ports(line: &mut [u8; 128], at: usize, ways: Ways) -> usize
 #[inline(always)]
 fn refusal_code(admit: Admit) -> u8
     ensures few { result ≤ 6 }
-    ensures code { (ways : List Bool) → is_admitted admit ≡ false → fate_text admit ways ≡ codes "refused " ++ (48 + result) ∷ [] }
+    ensures code { (ways : List Bool) → is_admitted admit ≡ false
+        → fate_text admit ways ≡ codes "refused " ++ (48 + result) ∷ [] }
 {
     match admit {
         Admit::Admitted => 0,
@@ -127,7 +128,8 @@ fn put_frame(line: &mut [u8; 128], at: usize, frame: &RawFrame<'_>) -> usize
 #[inline(always)]
 fn put_line(line: &mut [u8; 128], outcome: Outcome, frame: &RawFrame<'_>) -> usize
     ensures index { result ≤ 128 }
-    ensures text { take result line.new ≡ entry_line (record { port = outcome.port; frame = frame.now; admit = outcome.admit; ways = outcome.ways }) }
+    ensures text { take result line.new ≡ entry_line
+        (record { port = outcome.port; frame = frame.now; admit = outcome.admit; ways = outcome.ways }) }
 {
     let end = put_small(line, 0, outcome.port);
     let end = put_part(line, end, b" ", 1);
@@ -144,7 +146,8 @@ fn put_entry(
     line: &mut [u8; 128],
     lines: &mut Vec<u8>,
 ) -> Result<(), NoMemory>
-    ensures { OnOk result (lines.new.items ≡ lines.old.items ++ entry_line (record { port = outcome.port; frame = frame.now; admit = outcome.admit; ways = outcome.ways })) }
+    ensures { OnOk result (lines.new.items ≡ lines.old.items ++ entry_line
+        (record { port = outcome.port; frame = frame.now; admit = outcome.admit; ways = outcome.ways })) }
 {
     let end = put_line(line, outcome, frame);
     lines.extend_from_slice(&line[..end])

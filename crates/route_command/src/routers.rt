@@ -30,7 +30,8 @@ pub trait Router {
     ) -> Result<RouteEnd, RouteFault>
         requires ready { ready }
         requires can { CanRoute (length ports.old.items) plan.turns }
-        ensures { HasEnded result (if alone then true else plan.one) state (rules_of key.now known.now plan.plain (length ports.old.items))
+        ensures { HasEnded result (if alone then true else plan.one) state
+            (rules_of key.now known.now plan.plain (length ports.old.items))
             plan.turns ports.old.items ports.new.items };
 }
 

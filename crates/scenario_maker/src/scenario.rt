@@ -75,7 +75,8 @@ fn put_ticks(text: &mut String, round: &Round) -> Result<(), NoMemory>
 fn put_course(text: &mut String, round: &Round) -> Result<(), NoMemory>
     requires station { round.now.station < 4 }
     requires drone { round.now.drone < 4 }
-    ensures { OnOk result (string_bytes text.new ≡ string_bytes text.old ++ text_of (course_lines round.now round.now.course)) }
+    ensures { OnOk result (string_bytes text.new ≡ string_bytes text.old ++ text_of
+        (course_lines round.now round.now.course)) }
 {
     match round.course {
         Course::Straight => {}

@@ -45,7 +45,8 @@ fn run_line<T: Router, S: Source, K: Sink, C: Clock>(
     requires fits { Fits built line.now.command (map given_of line.now.settings.items)
         (map string_bytes line.now.words.items) }
     requires says { LineSays line.now }
-    requires node { NodeSays line.now.command (map string_bytes line.now.words.items) line.now.ports.items line.now.system task.old }
+    requires node { NodeSays line.now.command
+        (map string_bytes line.now.words.items) line.now.ports.items line.now.system task.old }
     requires links { AreAsked (length ports.old.items) (asked_by line.now) }
     requires stores { length keepers.old.items ≡ keepers_asked (asked_by line.now) }
     ensures does { Does (before_status (output_of K.faults K.sent out.old out.new) result)

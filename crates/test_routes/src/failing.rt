@@ -115,10 +115,10 @@ fn sum_of(alloc: Global) -> Result<u64, NoMemory> {
     Ok(tally.sum)
 }
 
-// A port is read five times and written to twelve times: in three rounds, with a frame from each other port that is written
-// by itself, 16 bytes at a time. One whose read fails gave 0, 0, 1, 2 or 3 of its frames before, and each other port its
-// three: 36 entries in those five runs. One whose write fails isn't read again, and gave 1, 2 or 3 of them, four times each:
-// 96. In each of the other seven runs there are 9.
+// A port is read five times and written to twelve times: in three rounds, with a frame from each other port that is
+// written by itself, 16 bytes at a time. One whose read fails gave 0, 0, 1, 2 or 3 of its frames before, and each
+// other port its three: 36 entries in those five runs. One whose write fails isn't read again, and gave 1, 2 or 3 of
+// them, four times each: 96. In each of the other seven runs there are 9.
 #[test]
 fn a_port_may_fail_at_any_call(rt: HostRuntime) -> Result<(), Fail> {
     assert_eq!(rt; sum_of(rt.alloc())?, 3 * (17_000 + 36 + 96 + 7 * 9));

@@ -204,7 +204,8 @@ fn run_unlinked<S: Source, K: Sink>(
     inputs: &mut Inputs<S>,
     out: &mut K,
 ) -> u8
-    requires { (asked : Asked) → Asks built (map string_bytes words.now) asked → AreAsked 0 asked × (0 ≡ keepers_asked asked) }
+    requires { (asked : Asked) → Asks built (map string_bytes words.now) asked
+        → AreAsked 0 asked × (0 ≡ keepers_asked asked) }
 {
     let mut clock = MemClock::new(0);
     run_alone(

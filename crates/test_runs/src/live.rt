@@ -23,8 +23,8 @@ const EMPTY_DRONE: &[u8] = &[
     0xBE, 0x0E, 0x8C, 0x00, 0x43, 0x42, 0x0F, 0x00, 0x00, 0x00, 0xFA, 0x5D, 0x35, 0x38, 0xE6, 0x9F,
 ];
 
-// Words over a link with these bytes that idles at the first reads, so many, and fails at these reads and writes; the status,
-// what was written to the output, and how many bytes to the link.
+// Words over a link with these bytes that idles at the first reads, so many, and fails at these reads and writes; the
+// status, what was written to the output, and how many bytes to the link.
 #[derive(Clone, Copy)]
 struct LiveRun {
     words: &'static str,

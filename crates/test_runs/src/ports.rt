@@ -144,7 +144,8 @@ fn all_that_is_written_is_sent_while_there_is_room(rt: HostRuntime) -> Result<()
     Ok(())
 }
 
-// Gives one byte a call, but fails at its second, is interrupted at its third, ends at its fifth, and goes on after that.
+// Gives one byte a call, but fails at its second, is interrupted at its third, ends at its fifth, and goes on after
+// that.
 #[derive(Drop)]
 struct Unsteady {
     calls: u8,

@@ -35,7 +35,8 @@ fn run_one(
     out: &mut SureSink,
 ) -> u8
     requires one { ((map string_bytes words.now ≡ codes "fleet" ∷ codes "file" ∷ [])
-        × ((⟦<SureSource as Source>⟧.left inputs.old.main ≡ Some one_item) ⊎ (⟦<SureSource as Source>⟧.left inputs.old.main ≡ Some restart_between)))
+        × ((⟦<SureSource as Source>⟧.left inputs.old.main ≡ Some one_item)
+        ⊎ (⟦<SureSource as Source>⟧.left inputs.old.main ≡ Some restart_between)))
         ⊎ (((map string_bytes words.now ≡ codes "decode" ∷ codes "file" ∷ [])
         × (⟦<SureSource as Source>⟧.left inputs.old.main ≡ Some one_heartbeat))
         ⊎ (map string_bytes words.now ≡ codes "dialect" ∷ [])) }
@@ -99,7 +100,8 @@ fn inputs_over(alloc: Global, main: &[u8]) -> Result<Inputs<SureSource>, AllocEr
 
 // The status of one of them.
 fn status_of(alloc: Global, command: &str, has_file: bool, main: &[u8]) -> Result<u8, AllocError>
-    requires one { ((command.now ≡ codes "fleet") × (has_file ≡ true) × ((main.now ≡ one_item) ⊎ (main.now ≡ restart_between)))
+    requires one { ((command.now ≡ codes "fleet") × (has_file ≡ true)
+        × ((main.now ≡ one_item) ⊎ (main.now ≡ restart_between)))
         ⊎ (((command.now ≡ codes "decode") × (has_file ≡ true) × (main.now ≡ one_heartbeat))
         ⊎ ((command.now ≡ codes "dialect") × (has_file ≡ false))) }
 {

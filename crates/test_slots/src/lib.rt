@@ -1,5 +1,5 @@
-//! Tests of the store in two slots: what each crash inside a save leaves on a disk in memory, the bytes that saves write,
-//! and a store in a file. Nothing depends on it.
+//! Tests of the store in two slots: what each crash inside a save leaves on a disk in memory, the bytes that saves
+//! write, and a store in a file. Nothing depends on it.
 #![tactic(auto)]
 
 #[cfg(test)]

@@ -27,7 +27,11 @@ fn extras(alloc: Global) -> Result<Extras, NoMemory>
 
 // Appends the events until the reader needs more bytes.
 fn drain(reader: &mut Reader, events: &mut Vec<Event>) -> Result<(), NoMemory>
-    ensures progress { OnOk result ((extras : List (ℕ × ℕ)) (reads_old : Bool) (taken : List ℕ) → Progress extras reads_old taken events.old.items reader.old → Progress extras reads_old taken events.new.items reader.new × IsWhole extras reads_old taken events.new.items reader.new) }
+    ensures progress { OnOk result
+        ((extras : List (ℕ × ℕ)) (reads_old : Bool) (taken : List ℕ)
+        → Progress extras reads_old taken events.old.items reader.old
+        → Progress extras reads_old taken events.new.items reader.new
+        × IsWhole extras reads_old taken events.new.items reader.new) }
     ensures room { OnOk result (length reader.new.bytes < 280) }
     ensures ended { reader.new.ended ≡ reader.old.ended }
 {
