@@ -9,10 +9,10 @@
 mod commands;
 mod definitions;
 mod dialect_asked;
-mod known;
+mod known_messages;
 mod layouts;
 
 pub use commands::{dialect, profile};
 pub use definitions::read_definitions;
 pub use dialect_asked::run_dialect;
-pub use known::known_messages;
+pub use known_messages::known_messages;
