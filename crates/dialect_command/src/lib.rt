@@ -9,10 +9,10 @@
 mod commands;
 mod definitions;
 mod dialect_asked;
-mod known_messages;
 mod layouts;
+mod named_definitions;
 
 pub use commands::{dialect, profile};
 pub use definitions::read_definitions;
 pub use dialect_asked::run_dialect;
-pub use known_messages::known_messages;
+pub use named_definitions::known_messages;
