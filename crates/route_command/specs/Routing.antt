@@ -3,7 +3,7 @@ use Rattle.std.specs.Prelude.{◌≡◌, ◌⊎◌, ℕ, zero, suc, Bool, true, 
 use Rattle.field_layout.specs.Definition.{Definition}
 use Rattle.mav_links.specs.Links.{LinkState}
 use Rattle.run_status.specs.Runs.{CommandSpec}
-use Rattle.command_inputs.specs.KeyInputs.{given_key_spec, HoldsGivenKey, TookAtMost}
+use Rattle.command_inputs.specs.NamedKeys.{WithGivenKey}
 use Rattle.command_line.specs.declared.commands.OptionName.TheVariants.{One}
 use Rattle.command_line.specs.Forms.{has_given}
 use Rattle.command_line.specs.Grammar.{Asked}
