@@ -229,7 +229,7 @@ def of_scenarios():
 
 def fault_of(line):
     """Why a beginning of a line of that scenario is rejected; None if it isn't."""
-    forms = {"drone": "n", "station": "nn", "items": "nnnnn", "begin": "sdk", "get": "sdk", "flow": "n", "tick": "d", "noise": "dh"}
+    forms = {"drone": "n", "station": "nn", "item": "nnnn", "items": "nnnnn", "begin": "sdk", "get": "sdk", "flow": "n", "tick": "d", "noise": "dh"}
     word, *rest = line.split(" ")
     if not line or word not in forms:
         return "word" if line else None

@@ -134,6 +134,7 @@ def station_that_is_shut_out(program, folder, code):
             try:
                 _, station = peer.recvfrom(2048)
                 for whole in [*sent, frames.bytes_of((1, 1), 0, peers.now(), acknowledged)]:
+                    time.sleep(peers.PACE)
                     peer.sendto(whole, station)
                 run.ends(10, status)
                 need((f"drop 255.190 {code}" in run.lines()) == (status == 9), f"it tells {run.lines()[-3:]}")
@@ -185,6 +186,13 @@ class Between(threading.Thread):
         elif self.station:
             self.front.sendto(data, self.station)
 
+    def again(self):
+        """All that it heard, in another order, to both."""
+        for old in self.chance.sample(self.heard, len(self.heard)):
+            time.sleep(peers.PACE / 5)
+            self.put(True, old)
+            self.put(False, old)
+
     def stop(self):
         self.is_over.set()
         self.join(5)
@@ -223,6 +231,7 @@ def replays_between(program, folder):
                 need(words[:2] != ["param", "read"] or printed.endswith(b' "SIM_STEP" 6 e8030000\n'), f"{words}: {printed[-80:]!r}")
             finally:
                 run.stop()
+            between.again()
         lines = drone.lines()
         need(sum(line.startswith("install ") for line in lines) == 1, "a replayed upload is installed")
         need(sum(line.startswith("clear ") for line in lines) == 4, "a replayed clear is done")

@@ -243,22 +243,22 @@ def streams_at_a_station(program, folder):
 # ---- timestamps spent
 
 def stamps_at_a_drone(program, folder):
-    """An insider's frame of the last timestamp leaves a drone one frame; so does the last but one in a store."""
+    """An insider's frame of the last timestamp leaves a drone one frame; so does the last but one in a store. What is read
+    at once is one call, of which nothing is told once a timestamp is missing."""
     words = ["drone", "--key", "k", "--store", "s", "1", "file:a:x"]
     ping = message(frames.PING, 0, 5, 0, 0)
     for stamps in ((LAST,), (LAST - 1, LAST), (LAST - 2, LAST - 1, LAST), (LAST, LAST)):
-        parts = [bytes_of((9, 9), at, stamp, ping) for at, stamp in enumerate(stamps)]
-        status, text, image = drone_told(parts + [bytes_of((9, 8), 0, LAST, ping)])
+        whole = b"".join(bytes_of((9, 9), at, stamp, ping) for at, stamp in enumerate(stamps)) + bytes_of((9, 8), 0, LAST, ping)
+        status, text, image = drone_told([whole])
         check(status == 13, "the model is wrong")
-        parts.append(bytes_of((9, 8), 0, LAST, ping))
-        ran(program, folder, words, {"a": b"".join(parts)}, 13, text, {"s": store_of(image)})
+        ran(program, folder, words, {"a": whole}, 13, text, {"s": store_of(image)})
         ran(program, folder, words, {"a": b""}, 13, b"stamps spent\n", {"s": store_of(image)})
         os.unlink(os.path.join(folder, "s"))
     for bound in (LAST - 2, LAST - 1, LAST):
         kept = store_of(bytes([1]) + bound.to_bytes(8, "little") + bytes(6))
-        parts = [bytes_of((9, 9), 0, LAST, ping)]
-        status, text, image = drone_told(parts, bound)
-        ran(program, folder, words, {"a": b"".join(parts), "s": kept}, status, text, {"s": store_of(image)})
+        whole = bytes_of((9, 9), 0, LAST, ping)
+        status, text, image = drone_told([whole], bound)
+        ran(program, folder, words, {"a": whole, "s": kept}, status, text, {"s": store_of(image)})
     beyond = store_of(bytes([1]) + (LAST + 1).to_bytes(8, "little") + bytes(6))
     ran(program, folder, words, {"a": b"", "s": beyond}, 3, BAD_STORE, {"s": beyond})
     return 12
