@@ -55,15 +55,15 @@ def of_captures():
     data = b"".join(captured())
     for size in range(len(data) + 1):
         part = data[:size]
-        yield Cut("decode", ["decode", "a"], {"a": part}, 0, decode_text(part, False))
-        yield Cut("decode --key", ["decode", "--key", "k", "a"], {"a": part, "k": KEY_TEXT}, 0, decode_text(part, True))
+        yield Cut("capture: decode", ["decode", "a"], {"a": part}, 0, decode_text(part, False))
+        yield Cut("capture: decode --key", ["decode", "--key", "k", "a"], {"a": part, "k": KEY_TEXT}, 0, decode_text(part, True))
         made = b"".join((START + 1000 * at).to_bytes(8, "big") + frame.whole
                         for at, frame in enumerate(one for one in reading(part, True) if not isinstance(one, tuple)))
-        yield Cut("log make", ["log", "make", str(START), "a"], {"a": part}, 0, made)
+        yield Cut("capture: log make", ["log", "make", str(START), "a"], {"a": part}, 0, made)
         for open_, is_open in (("open:", True), ("", False)):
             text, out = route_text(part, is_open)
             for one in (["--one"], []):
-                yield Cut(f"route {' '.join([*one, open_ + 'file:'])}",
+                yield Cut(f"capture: route {' '.join([*one, open_ + 'file:'])}",
                           ["route", *one, "--key", "k", f"{open_}file:a:x", f"{open_}file:b:y"],
                           {"a": part, "b": b"", "k": KEY_TEXT}, 0, text, {"x": b"", "y": out})
 
@@ -73,12 +73,12 @@ def of_logs():
     for size in range(len(data) + 1):
         part = data[:size]
         marks = [one for one in rows(part) if len(one) == 3]
-        yield Cut("log show", ["log", "show", "a"], {"a": part}, 0, log_text(part))
+        yield Cut("log: log show", ["log", "show", "a"], {"a": part}, 0, log_text(part))
         chosen = b"".join(micros.to_bytes(8, "big") + frame.whole for _, micros, frame in marks if frame.node[0] == 2)
-        yield Cut("log filter", ["log", "filter", "2", "a"], {"a": part}, 0, chosen)
+        yield Cut("log: log filter", ["log", "filter", "2", "a"], {"a": part}, 0, chosen)
         played = b"".join(frame.whole for *_, frame in marks)
         text, out = route_text(played, True)
-        yield Cut("route replay:", ["route", "--one", "--key", "k", "open:replay:a:x", "open:file:b:y"],
+        yield Cut("log: route replay:", ["route", "--one", "--key", "k", "open:replay:a:x", "open:file:b:y"],
                   {"a": part, "b": b"", "k": KEY_TEXT}, 0, text, {"x": b"", "y": out})
 
 
@@ -129,7 +129,7 @@ def of_drones():
         whole = parts[:ends_of(parts, size)]
         node, text = drone_after(whole)
         left = {"s": store_of(image_of(node))} if node.last else {}
-        yield Cut("drone", DRONE, {"a": data[:size], "k": KEY_TEXT}, 0, text, left)
+        yield Cut("input: drone", DRONE, {"a": data[:size], "k": KEY_TEXT}, 0, text, left)
 
 
 def of_stations():
@@ -139,7 +139,7 @@ def of_stations():
     data = b"".join(parts)
     for size in range(len(data) + 1):
         text, status = params_text(parts[:ends_of(parts, size)])
-        yield Cut("station", ["station", "--key", "k", "255", "190", "1", "file:a:x", "param", "list"],
+        yield Cut("input: station", ["station", "--key", "k", "255", "190", "1", "file:a:x", "param", "list"],
                   {"a": data[:size], "k": KEY_TEXT}, status, text)
 
 
@@ -168,12 +168,12 @@ def of_stores(each):
     near = {at + n for at in (0, len(image), SLOT, SIZE) for n in range(-40, 700)}
     for size in range(SIZE):
         if each or size in near or size % 997 == 0:
-            yield Cut("drone --store, a file cut", DRONE, {"a": b"", "k": KEY_TEXT, "s": whole[:size]}, 10, STORE_FAULT,
+            yield Cut("store: drone --store", DRONE, {"a": b"", "k": KEY_TEXT, "s": whole[:size]}, 10, STORE_FAULT,
                       {"s": whole[:size]})
     for size in range(1, len(image)):
         store = store_of(image[:size])
-        yield Cut("drone --store, an image cut", DRONE, {"a": b"", "k": KEY_TEXT, "s": store}, 3, BAD_STORE, {"s": store})
-    yield Cut("drone --store", DRONE, {"a": b"", "k": KEY_TEXT, "s": whole}, 0, b"1 1.1 HEARTBEAT\n")
+        yield Cut("image: drone --store", DRONE, {"a": b"", "k": KEY_TEXT, "s": store}, 3, BAD_STORE, {"s": store})
+    yield Cut("image: drone --store", DRONE, {"a": b"", "k": KEY_TEXT, "s": whole}, 0, b"1 1.1 HEARTBEAT\n")
 
 
 def of_keys():
@@ -181,15 +181,15 @@ def of_keys():
     for size in range(len(whole) + 1):
         files = {"a": data, "b": b"", "k": whole[:size]}
         good, bad = size in (0, 64, 66), (3, BAD_KEY)
-        yield Cut("decode --key, a key cut", ["decode", "--key", "k", "a"], files, *((0, decode_text(data, True)) if good else bad))
-        yield Cut("fleet --key, a key cut", ["fleet", "--key", "k", "b"], files, *((0, b"") if good else bad))
+        yield Cut("key: decode", ["decode", "--key", "k", "a"], files, *((0, decode_text(data, True)) if good else bad))
+        yield Cut("key: fleet", ["fleet", "--key", "k", "b"], files, *((0, b"") if good else bad))
         good = good and size > 0
         text, out = route_text(data, False)
-        yield Cut("route --key, a key cut", ["route", "--one", "--key", "k", "file:a:x", "file:b:y"], files,
+        yield Cut("key: route", ["route", "--one", "--key", "k", "file:a:x", "file:b:y"], files,
                   *((0, text, {"y": out}) if good else bad))
-        yield Cut("drone --key, a key cut", ["drone", "--key", "k", "1", "file:b:x"], files,
+        yield Cut("key: drone", ["drone", "--key", "k", "1", "file:b:x"], files,
                   *((0, b"1 1.1 HEARTBEAT\n") if good else bad))
-        yield Cut("station --key, a key cut", ["station", "--key", "k", "255", "190", "1", "file:b:x", "param", "list"], files,
+        yield Cut("key: station", ["station", "--key", "k", "255", "190", "1", "file:b:x", "param", "list"], files,
                   *(reversed(params_text([])) if good else bad))
 
 
@@ -206,11 +206,11 @@ def of_definitions():
     for size in range(len(whole) + 2):
         files = {"a": b"\0", "b": b"", "k": KEY_TEXT, "d": (whole + b"\n")[:size]}
         bad = (3, BAD_DEFINITIONS) if size < len(whole) else None
-        yield Cut("dialect --defs", ["dialect", "--defs", "d"], files, *(bad or (0, text)))
-        yield Cut("decode --defs", ["decode", "--defs", "d", "a"], files, *(bad or (0, decode_text(b"\0", False))))
-        yield Cut("log show --defs", ["log", "show", "--defs", "d", "a"], files, *(bad or (0, log_text(b"\0"))))
+        yield Cut("definitions: dialect", ["dialect", "--defs", "d"], files, *(bad or (0, text)))
+        yield Cut("definitions: decode", ["decode", "--defs", "d", "a"], files, *(bad or (0, decode_text(b"\0", False))))
+        yield Cut("definitions: log show", ["log", "show", "--defs", "d", "a"], files, *(bad or (0, log_text(b"\0"))))
         text_of_route = b"port 1 read 0 skipped 0 written 0 ended\n"
-        yield Cut("route --defs", ["route", "--key", "k", "--defs", "d", "file:b:x"], files, *(bad or (0, text_of_route)))
+        yield Cut("definitions: route", ["route", "--key", "k", "--defs", "d", "file:b:x"], files, *(bad or (0, text_of_route)))
 
 
 def of_scenarios():
@@ -224,7 +224,7 @@ def of_scenarios():
             world.line(line)
         told = f"bad line {len(done) + 1}: {reason}"
         text = "".join(line + "\n" for line in [*world.texts, told]) if reason else world.report()
-        yield Cut("fleet", ["fleet", "a"], {"a": whole[:size].encode()}, 3 if reason else 0, text.encode())
+        yield Cut("scenario: fleet", ["fleet", "a"], {"a": whole[:size].encode()}, 3 if reason else 0, text.encode())
 
 
 def fault_of(line):
