@@ -38,9 +38,9 @@ class Flown:
 
     def heard(self):
         """The timestamps of the drone's frames that the insider has had yet, PINGs alone."""
-        stamps = []
-        while found := self.end.receive(0.3):
-            stamps += [frame.stamp for frame in found if frame.identity == frames.PING]
+        stamps, until = [], time.monotonic() + OUT
+        while time.monotonic() < until:
+            stamps += [frame.stamp for frame in self.end.receive(0.1) if frame.identity == frames.PING]
         return stamps
 
     def is_shut(self, code):
