@@ -5,6 +5,7 @@ guide: Packet serialisation, Message signing).
 """
 
 import hashlib
+import random
 import socket
 import time
 
@@ -88,9 +89,17 @@ class Reader:
 
 
 def free_port(kind):
-    with socket.socket(socket.AF_INET, kind) as found:
-        found.bind(("127.0.0.1", 0))
-        return found.getsockname()[1]
+    """A port that nobody has, and that the system gives nobody by itself until it is bound."""
+    with open("/proc/sys/net/ipv4/ip_local_port_range", encoding="ascii") as file:
+        first = int(file.read().split()[0])
+    while True:
+        port = random.randrange(first // 2, first)
+        with socket.socket(socket.AF_INET, kind) as found:
+            try:
+                found.bind(("127.0.0.1", port))
+                return port
+            except OSError:
+                pass
 
 
 def await_bound(port, until):

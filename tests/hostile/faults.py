@@ -1,7 +1,8 @@
 """Runs a program whose system calls are refused in turn, by ptrace of Linux on x86-64; `starved` uses it.
 
 A run counts the calls of one class, and from the one chosen on it is refused once, or from there on always: the call
-isn't made, and the program gets the error, or a read or write is of fewer bytes than it asked for."""
+isn't made, and the program gets the error, or a read or write is of fewer bytes than it asked for. A refused `brk` has
+no error: as the system does, it answers where the end of the heap is and stays."""
 
 import ctypes
 import errno
@@ -21,6 +22,7 @@ SYSCALLS = {
 }
 ERRORS = {"read": errno.EIO, "write": errno.ENOSPC, "sync": errno.EIO, "open": errno.EMFILE, "rename": errno.EIO,
           "memory": errno.ENOMEM}
+MMAP, BRK = 9, 12
 ANONYMOUS, NAMES = 0x20, ("r15 r14 r13 r12 rbp rbx r11 r10 r9 r8 rax rcx rdx rsi rdi orig_rax rip cs eflags rsp ss "
                           "fs_base gs_base ds es fs gs").split()
 
@@ -47,8 +49,10 @@ class Plan:
         number = registers.orig_rax
         if number not in SYSCALLS[self.which]:
             return False
-        if self.which == "memory" and number == 9:
+        if number == MMAP:
             return registers.r10 & ANONYMOUS != 0
+        if number == BRK:
+            return registers.rdi != 0
         return not (self.which in ("read", "write") and registers.rdi == 2)
 
     def enters(self, process, registers):
@@ -60,17 +64,22 @@ class Plan:
         if not chosen:
             return
         self.refused += 1
+        # What is to be in a register once the call returns: its error, or a word that the call left as it was.
         if self.is_short:
+            self.inside[process] = "rdx", registers.rdx
             registers.rdx = min(registers.rdx, 1 + registers.rdx // 2)
+        elif registers.orig_rax == BRK:
+            self.inside[process] = "rdi", registers.rdi
+            registers.rdi = 0
         else:
+            self.inside[process] = "rax", -ERRORS[self.which] & NONE
             registers.orig_rax = NONE
-            self.inside[process] = -ERRORS[self.which]
         ptrace(SETREGS, process, ctypes.byref(registers))
 
     def leaves(self, process, registers):
-        error = self.inside.pop(process, None)
-        if error is not None:
-            registers.rax = error & NONE
+        name, word = self.inside.pop(process, (None, None))
+        if name:
+            setattr(registers, name, word)
             ptrace(SETREGS, process, ctypes.byref(registers))
 
 

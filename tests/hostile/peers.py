@@ -73,6 +73,16 @@ def replay(chance, heard, target):
         yield chance.choice(heard) if heard else b"\0"
 
 
+def reordered(chance, heard, target):
+    """All that was heard, in another order, again and again."""
+    yield b"\0"
+    while True:
+        for _ in range(64):
+            time.sleep(PACE)
+            yield None
+        yield from chance.sample(heard, len(heard))
+
+
 def unsigned(chance, heard, target):
     """Frames without a signature, of every message, from and for every system."""
     while True:
@@ -99,6 +109,21 @@ def half_frame(chance, heard, target):
 def crowd(chance, heard, target):
     """Half a frame, with 199 more connections to the same port, each of which says something."""
     return half_frame(chance, heard, target)
+
+
+def with_little_room(port, until):
+    """A connection for which the system holds few bytes at its own side."""
+    while True:
+        stream = socket.socket()
+        stream.setsockopt(socket.SOL_SOCKET, socket.SO_RCVBUF, 4096)
+        try:
+            stream.connect(("127.0.0.1", port))
+            return stream
+        except OSError:
+            stream.close()
+            if time.monotonic() > until:
+                raise
+            time.sleep(0.02)
 
 
 class Datagrams(threading.Thread):
@@ -140,7 +165,7 @@ class Stream(threading.Thread):
     def __init__(self, port, attack, target, end="close", reads=True, until=5.0, seed=1):
         super().__init__(daemon=True)
         self.port, self.end, self.reads, self.heard, self.sent = port, end, reads, [], 0
-        self.stream = connect(port, time.monotonic() + until)
+        self.stream = (connect if reads else with_little_room)(port, time.monotonic() + until)
         self.stream.settimeout(0.2)
         self.others = [other for _ in range(199 * (attack is crowd)) if (other := self.another())]
         self.pieces, self.is_over = attack(random.Random(seed), self.heard, target), threading.Event()

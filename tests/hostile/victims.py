@@ -63,6 +63,12 @@ def honest_frames(count, is_big):
     return [frames.bytes_of((1, 1), number, stamp + number, sent) for number in range(count)]
 
 
+def filling():
+    """How many of the longest frames are more than the system holds for a peer that doesn't read."""
+    with open("/proc/sys/net/ipv4/tcp_wmem", encoding="ascii") as file:
+        return int(file.read().split()[2]) // 250 + 3000
+
+
 def is_all(received, sent):
     """Whether an honest peer has had each frame of the other, in order, whatever else it had."""
     return [whole for whole in received if whole[5:7] == b"\1\1"] == sent
@@ -118,7 +124,7 @@ def router_of_datagrams(program, folder, attack, sources, options):
 def router_of_streams(program, folder, attack, end, reads, options):
     """A router with a hostile peer at the first of three TCP ports: all frames from the second reach the third, and
     once the honest ones have ended it ends with status 0, and with `ended` at their ports."""
-    port, sent, received = free_port(socket.SOCK_STREAM), honest_frames(HONEST if reads else 3000, not reads), []
+    port, sent, received = free_port(socket.SOCK_STREAM), honest_frames(HONEST if reads else filling(), not reads), []
     with socket.create_server(("127.0.0.1", 0)) as first, socket.create_server(("127.0.0.1", 0)) as second:
         first.settimeout(10)
         second.settimeout(10)
