@@ -1,1 +1,3 @@
+mod Deliveries
 mod Frames
+mod Limits

@@ -5,6 +5,7 @@
 //! frame and the list of those that wait. Only [`Queue::new`] and [`Queue::push`] allocate.
 #![tactic(auto)]
 
+mod backlog;
 mod queue;
 
 pub use queue::Queue;

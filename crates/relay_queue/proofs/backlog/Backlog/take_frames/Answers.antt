@@ -1,7 +1,7 @@
 use Rattle.std.proofs.Common.{◌≡◌, ◌∙◌, ◌-◌, List, ℕ, refl, arith, ap, sym, drop, length, subst, ◌<◌}
 use Rattle.relay_queue.specs.Queues.{QueueState, written}
 use Rattle.relay_queue.proofs.Frames.{all_left, is_empty, none_left, not_begun, part_written, whole_written}
-use Rattle.relay_queue.proofs.queue.Queue.take_frames.Goals as goal
+use Rattle.relay_queue.proofs.backlog.Backlog.take_frames.Goals as goal
 
 pub loop-left-init : goal.loop-left-init
 loop-left-init c = (is_empty c.args.self.now.begun c.requires, refl)

@@ -1,7 +1,7 @@
 use Rattle.std.proofs.Common.{◌∙◌, ◌-◌, sym, length}
 use Rattle.relay_queue.specs.Queues.{size_of}
 use Rattle.relay_queue.proofs.Frames.{over_is, some_over}
-use Rattle.relay_queue.proofs.queue.Queue.is_over.Goals as goal
+use Rattle.relay_queue.proofs.backlog.Backlog.is_over.Goals as goal
 
 pub returns-clause-over : goal.returns-clause-over
 returns-clause-over c = over_is (length c.args.self.now.begun) (size_of c.args.self.now.waiting) c.len.result c.len.ensures.part c.len.ensures.size

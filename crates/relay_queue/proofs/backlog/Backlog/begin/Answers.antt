@@ -2,7 +2,7 @@ use Rattle.std.proofs.Common.{◌∙◌, ◌+◌, ◌∷◌, List, ℕ, length, 
 use Rattle.std.specs.List.{slice_range}
 use Rattle.relay_queue.specs.Queues.{AreFrames, QueueState}
 use Rattle.relay_queue.proofs.Frames.{begun_is, part_less}
-use Rattle.relay_queue.proofs.queue.Queue.begin.Goals as goal
+use Rattle.relay_queue.proofs.backlog.Backlog.begin.Goals as goal
 
 pub overflow_add-self-inside : goal.overflow_add-self-inside
 overflow_add-self-inside c =
@@ -31,7 +31,7 @@ replace-requires-clause-within c =
 pub replace-requires-clause-room : goal.replace-requires-clause-room
 replace-requires-clause-room c =
     let small = subst AreFrames c.in-Some.ensures.items c.self.invariant.4 in
-    omega (arith, small.0, c.from.ensures, c.self.invariant.2)
+    omega (arith, small.1, c.from.ensures, c.self.invariant.2)
 
 pub invariant_of-self-2 : goal.invariant_of-self-2
 invariant_of-self-2 c =
@@ -40,7 +40,7 @@ invariant_of-self-2 c =
     let l = part_less q.start c.from.result c.args.count q.bytes.items q.sizes.items c.pop_front.new.self.items c.args.self.now.waiting (ap (λ (s : QueueState). s.waiting) c.self.view_is) is c.self.invariant.3 c.requires.part in
     let small = subst AreFrames c.in-Some.ensures.items c.self.invariant.4 in
     let e = c.replace.ensures in
-    (omega arith, omega (arith, e.len, small.0, c.from.ensures), omega (arith, e.room, c.self.invariant.2), l.2, small.1)
+    (omega arith, omega (arith, e.len, small.1, c.from.ensures), omega (arith, e.room, c.self.invariant.2), l.2, small.2, c.self.invariant.5)
 
 pub returns : goal.returns
 returns c = λ frame frames at.

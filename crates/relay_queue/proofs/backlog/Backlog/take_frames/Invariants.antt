@@ -1,6 +1,6 @@
 use Rattle.std.proofs.Common.{◌≡◌, [], length}
 use Rattle.relay_queue.specs.Queues.{written}
-use Rattle.relay_queue.proofs.queue.Queue.take_frames.Given as goal
+use Rattle.relay_queue.proofs.backlog.Backlog.take_frames.Given as goal
 
 abbrev pub invariant-loop-left : goal.invariant-loop-left
 invariant-loop-left l =

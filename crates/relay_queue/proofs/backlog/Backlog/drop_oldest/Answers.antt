@@ -2,7 +2,7 @@ use Rattle.std.proofs.Common.{◌≡◌, ◌∙◌, ◌-◌, List, ℕ, true, le
 use Rattle.std.proofs.lemmas.List.{length-drop}
 use Rattle.relay_queue.specs.Queues.{QueueState, newest, queue_of, size_of}
 use Rattle.relay_queue.proofs.Frames.{all_fit, drop_one}
-use Rattle.relay_queue.proofs.queue.Queue.drop_oldest.Goals as goal
+use Rattle.relay_queue.proofs.backlog.Backlog.drop_oldest.Goals as goal
 
 pub loop-self-preserved : goal.loop-self-preserved
 loop-self-preserved c =

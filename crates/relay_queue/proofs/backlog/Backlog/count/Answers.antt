@@ -1,6 +1,6 @@
 use Rattle.std.proofs.Common.{◌∙◌, ◌+◌, arith, ap, sym, true, false, ℕ, ◌≡◌}
 use Rattle.relay_queue.proofs.Frames.{count_begun}
-use Rattle.relay_queue.proofs.queue.Queue.count.Goals as goal
+use Rattle.relay_queue.proofs.backlog.Backlog.count.Goals as goal
 
 pub returns-then-has_begun : goal.returns-then-has_begun
 returns-then-has_begun c = ap (λ (n : ℕ). n + 1) c.waiting.ensures.count ∙ count_begun c.args.self.now true (sym c.has_begun.ensures ∙ c.if-has_begun.true)

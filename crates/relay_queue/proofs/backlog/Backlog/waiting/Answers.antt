@@ -1,7 +1,7 @@
 use Rattle.std.proofs.Common.{◌≡◌, arith, length, drop, subst}
 use Rattle.relay_queue.specs.Queues.{QueueState}
 use Rattle.relay_queue.proofs.Frames.{count_frames}
-use Rattle.relay_queue.proofs.queue.Queue.waiting.Goals as goal
+use Rattle.relay_queue.proofs.backlog.Backlog.waiting.Goals as goal
 
 pub returns-clause-count : goal.returns-clause-count
 returns-clause-count c =

@@ -2,7 +2,7 @@ use Rattle.std.proofs.Common.{◌≡◌, ◌∙◌, ◌+◌, ◌-◌, ◌≤◌,
 use Rattle.std.proofs.lemmas.List.{length-drop}
 use Rattle.relay_queue.specs.Queues.{QueueState, size_of}
 use Rattle.relay_queue.proofs.Frames.{size_frames}
-use Rattle.relay_queue.proofs.queue.Queue.len.Goals as goal
+use Rattle.relay_queue.proofs.backlog.Backlog.len.Goals as goal
 
 pub returns-clause-size : goal.returns-clause-size
 returns-clause-size c =

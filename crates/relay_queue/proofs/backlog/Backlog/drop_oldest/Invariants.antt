@@ -1,6 +1,6 @@
 use Rattle.std.proofs.Common.{◌≡◌, ◌≤◌, ◌-◌, length}
 use Rattle.relay_queue.specs.Queues.{newest}
-use Rattle.relay_queue.proofs.queue.Queue.drop_oldest.Given as goal
+use Rattle.relay_queue.proofs.backlog.Backlog.drop_oldest.Given as goal
 
 abbrev pub invariant-loop-self : goal.invariant-loop-self
 invariant-loop-self l =

@@ -3,7 +3,7 @@ use Rattle.std.specs.List.{concat}
 use Rattle.std.proofs.lemmas.List.{length-drop}
 use Rattle.relay_queue.specs.Queues.{QueueState}
 use Rattle.relay_queue.proofs.Frames.{all_frames, next_begun, next_waiting, rest_of}
-use Rattle.relay_queue.proofs.queue.Queue.next_bytes.Goals as goal
+use Rattle.relay_queue.proofs.backlog.Backlog.next_bytes.Goals as goal
 
 pub returns-then-has_begun : goal.returns-then-has_begun
 returns-then-has_begun c =
