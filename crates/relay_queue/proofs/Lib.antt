@@ -1,3 +1,3 @@
-mod Deliveries
+pub mod Deliveries
 mod Frames
 mod Limits

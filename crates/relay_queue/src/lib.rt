@@ -6,6 +6,7 @@
 #![tactic(auto)]
 
 mod backlog;
+pub mod laws;
 mod queue;
 
 pub use queue::Queue;
