@@ -1,1 +1,6 @@
+pub mod Calls
+pub mod Flows
+pub mod Moves
+pub mod RelayRuns
+pub mod Scans
 pub mod Waitings

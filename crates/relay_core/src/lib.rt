@@ -5,11 +5,18 @@
 //! itself.
 #![tactic(auto)]
 
+mod hearing;
 mod queues;
+mod relay;
+mod scanners;
+mod streams;
 mod waiting;
+mod watcher;
 
 pub use queues::Queues;
+pub use relay::Relay;
 use std::alloc::AllocError;
+pub use watcher::Watcher;
 
 /// There was no memory.
 pub type NoMemory = AllocError;

@@ -131,6 +131,7 @@ impl Queues {
         requires short { length bytes.now ≤ 280 }
         ensures queues { OnOk result (WaitsAt (length self.old) (has_link ways.bits) bytes.now self.old self.new) }
         ensures part { OnErr result (WaitsInPart (has_link ways.bits) bytes.now self.old self.new) }
+        ensures count { length self.new ≡ length self.old }
     {
         pass_on(&mut self.list, ways, bytes)
     }
@@ -147,10 +148,18 @@ impl Queues {
     pub fn wrote(&mut self, index: usize, count: usize)
         requires within { index < length self.old }
         requires count { (waiting : WaitingState) → slice_get self.old index ≡ Some waiting → count ≤ length (next_bytes waiting.queue) }
-        ensures { (waiting : WaitingState) → slice_get self.old index ≡ Some waiting
+        ensures queues { (waiting : WaitingState) → slice_get self.old index ≡ Some waiting
             → self.new ≡ slice_set self.old index (wrote count waiting) }
+        ensures count { length self.new ≡ length self.old }
     {
         wrote_at(&mut self.list, index, count);
+    }
+
+    /// How many links are open.
+    pub fn len(&self) -> usize
+        ensures { result ≡ length self.now }
+    {
+        self.list.len()
     }
 
     /// How many frames of that link were dropped.
