@@ -1,5 +1,5 @@
 // The switch of a relay.
-ghost use Rattle.std.specs.Prelude.{◌≡◌, ◌+◌, ◌<◌, ◌≤◌, ◌^◌, ◌×◌, [], length, slice_get, Some, IfOk, OnOk, OnErr, IsTrue};
+ghost use Rattle.std.specs.Prelude.{◌≡◌, ◌+◌, ◌<◌, ◌≤◌, ◌^◌, length, slice_get, Some, IfOk, OnOk, OnErr, IsTrue};
 ghost use Rattle.mav_sign.specs.Kept.{Kept, Represents as OfHistory};
 ghost use Rattle.relay_queue.specs.Queues.{next_bytes};
 ghost use Rattle.relay_core.specs.Calls.{Closes, Hears, IsNew, Opens, Takes};

@@ -1,3 +1,3 @@
-mod Numbering
+pub mod Numbering
 mod RouteLaws
 mod Routes
