@@ -1,5 +1,5 @@
 -- A run goes on with a frame.
-use Rattle.std.proofs.Common.{◌≡◌, ◌∙◌, ◌<◌, ◌≤◌, ◌⊎◌, inl, inr, ℕ, zero, suc, ◌+◌, ◌-◌, ◌==◌, ◌&&◌, Bool, true, false, if◌then◌else◌, List, [], ◌∷◌, ◌++◌, length, map, filter, get_or, set, slice_get, Option, Some, option_map, refl, sym, ap, subst, arith}
+use Rattle.std.proofs.Common.{◌≡◌, ◌∙◌, ◌<◌, ◌≤◌, ◌⊎◌, inl, inr, ℕ, zero, suc, ◌+◌, ◌-◌, ◌==◌, ◌&&◌, Bool, true, false, if◌then◌else◌, List, [], ◌∷◌, ◌++◌, length, map, filter, get_or, set, slice_get, Option, Some, None, option_map, refl, sym, ap, subst, arith}
 use Rattle.std.proofs.lemmas.Bool.{cases_Bool}
 use Rattle.std.proofs.lemmas.Option.{get_or_from_slice_get, slice_get_within, slice_get-get_or}
 use Rattle.mav_names.specs.declared.names.Name.{Name}
@@ -14,10 +14,10 @@ use Rattle.mav_stream.specs.declared.spans.NextSpan.TheVariants.{Frame, Skipped}
 use Rattle.mav_frame.specs.declared.looks.Why.{Why}
 use Rattle.mav_router.specs.Journal.{Rules}
 use Rattle.relay_rules.specs.Kept.{LinksKept, Represents, head_of}
-use Rattle.relay_rules.specs.States.{LinkState, RelayState, heard, link_at, taught}
+use Rattle.relay_rules.specs.States.{LinkState, RelayState, link_at, no_link, taught}
 use Rattle.relay_rules.specs.Steps.{Event, Hears, hears}
 use Rattle.relay_rules.specs.declared.links.OpenLink.{OpenLink}
-use Rattle.relay_core.specs.Flows.{Course, Flow, Goes, Told, each_from, flow_after, flows_after, nothing_yet, passes, reaches, told_of, ways_to, with_if}
+use Rattle.relay_core.specs.Flows.{Course, Flow, Goes, Told, each_from, flow_after, flows_after, nothing_yet, one_told, passes, reaches, told_of, ways_to, with_if}
 use Rattle.relay_core.specs.Moves.{FrameGoes, Moved, tells}
 use Rattle.relay_core.specs.RelayRuns.{HasClosed, Hearing, HoldsSoFar, IsOpenAt, IsRun, RelayKept, RelayRun, Sending, Tape, WasHeard, WasSent}
 use Rattle.relay_core.specs.Scans.{consumed}
@@ -36,7 +36,7 @@ as_many view state r = ap length r.links ∙ mapped state.links
     mapped (l ∷ links) = ap suc (mapped links)
 
 pub there_is : (links : List LinkState) (index : ℕ) → index < length links → slice_get links index ≡ Some (link_at links index)
-there_is links index l = slice_get-get_or links index _ l
+there_is links index l = slice_get-get_or links index no_link l
 
 -- a link is still there after one was set
 now_link : (links : List LinkState) (at k : ℕ) (new link : LinkState) → new.number ≡ (link_at links at).number → slice_get links k ≡ Some link → (now : LinkState) × (slice_get (set links at new) k ≡ Some now) × (now.number ≡ link.number)
@@ -115,8 +115,8 @@ sends_at rules packet answer run index k own goes queues waiting w flow tape r h
     let before = get_or queues k w in
     let there = slice_get-get_or queues k w within in
     let w_is = same_some (sym now ∙ pushes.each k before within there) in
-    let open = slice_get_within links k b.old b.open_is.link_is in
-    let way : goes k ≡ passes rules packet answer own b.old = ways k open ∙ ap (passes rules packet answer own) (get_or_from_slice_get links k b.old _ b.open_is.link_is) in
+    let inside = slice_get_within links k b.old b.open_is.link_is in
+    let way : goes k ≡ passes rules packet answer own b.old = ways k inside ∙ ap (passes rules packet answer own) (get_or_from_slice_get links k b.old no_link b.open_is.link_is) in
     let reach : reaches rules packet answer links own.number b.old.number ≡ goes k = reaches_open rules packet answer run.course.state.given index k links own b.old r here b.open_is.link_is ∙ sym way in
     let sent_is = ap (λ (f : Flow). f.sent) b.flow_is in
     let old = sending before there in
@@ -167,17 +167,8 @@ frame_moves rules start run index size links later scanners queues waiting told 
     let given_is : g.after.given ≡ state.given = ap (λ (s : RelayState). s.given) g.step.state in
     let now = frame_run rules packet g.answer run own.number g.after in
     let went : Goes rules event run.course now.course = record { step = g.step; flows = refl; told = refl } in
-    let own_is : told_of rules event state.links ≡ (record {
-      number = own.number;
-      packet = packet;
-      answer = g.answer;
-      to = map (λ (link : LinkState). link.number) (filter (passes rules packet g.answer own) state.links);
-    }) ∷ [] = ap (λ (o : LinkState). (record {
-      number = own.number;
-      packet = packet;
-      answer = g.answer;
-      to = map (λ (link : LinkState). link.number) (filter (passes rules packet g.answer o) state.links);
-    }) ∷ []) (own_numbered state.given index state.links own rises here) in
+    let ways : LinkState → List ℕ = λ o. map (λ (link : LinkState). link.number) (filter (passes rules packet g.answer o) state.links) in
+    let own_is : told_of rules event state.links ≡ one_told own.number packet g.answer (ways own) = ap (λ (o : LinkState). one_told own.number packet g.answer (ways o)) (own_numbered state.given index state.links own rises here) in
     record {
       now = now;
       is_run = one_more rules run.events event (nothing_yet start) run.course now.course is went;
@@ -238,5 +229,5 @@ skip_moves rules start run index count why links scanners queues told held there
     no_more (x ∷ xs) = ap (λ (l : List Told). x ∷ l) (no_more xs)
 
     told_none : (t : Option (List Told)) → t ≡ tells t []
-    told_none Option.None = refl
+    told_none None = refl
     told_none (Some xs) = ap Some (sym (no_more xs))

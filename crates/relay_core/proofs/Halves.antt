@@ -4,9 +4,10 @@ use Rattle.std.proofs.lemmas.List.{append-nil, map-append}
 use Rattle.std.proofs.lemmas.List.Elements.{filter_map-append}
 use Rattle.mav_frame.specs.Packet.{Packet}
 use Rattle.mav_frame.specs.Encoding.{encoding}
-use Rattle.mav_frame.specs.Parse.{BeginsIncremental, Incremental, IsIncomplete}
+use Rattle.mav_frame.specs.Parse.{Incremental, IsIncomplete}
 use Rattle.mav_frame.specs.declared.events.Event.{Event as FrameEvent}
 use Rattle.mav_frame.specs.declared.events.Event.TheVariants.{Frame as FrameFound}
+use Rattle.mav_frame.proofs.LongerParse.{incremental_ends}
 use Rattle.mav_frame.specs.declared.looks.Why.{Why}
 use Rattle.mav_profile.specs.Messages.{extras_of}
 use Rattle.mav_sign.specs.Endpoints.{frames_of, frame_in}
@@ -70,11 +71,6 @@ hearing_fed rules flow tape held now bytes count feeds all h = record {
 pub hearing_took : (rules : Rules) (flow : Flow) (tape : Tape) (held : Held) (bytes : List ℕ) → Hearing rules flow tape held → Hearing rules flow (took bytes tape) held
 hearing_took rules flow tape held bytes h = record { found = h.found; parsed = h.parsed; heard = h.heard; live = h.live }
 
-begins_whole : (extras : List (ℕ × ℕ)) (old : Bool) (found : List FrameEvent) (left bytes : List ℕ) → BeginsIncremental extras old found left bytes → IsIncomplete extras old left → Incremental extras old found left bytes
-begins_whole extras old [] left bytes begins rest = (sym begins, subst (IsIncomplete extras old) (sym begins) rest)
-begins_whole extras old (event ∷ found) left bytes begins rest =
-    (begins.0, begins.1, begins.2, begins_whole extras old found left begins.1 begins.3 rest)
-
 pub was_heard : (rules : Rules) (flow : Flow) (tape : Tape) (held : Held) → IsResting held → Hearing rules flow tape held → WasHeard rules flow tape
 was_heard rules flow tape held rests h =
     let extras = extras_of rules.known in
@@ -83,7 +79,7 @@ was_heard rules flow tape held rests h =
     record {
       found = h.found;
       left = held.bytes;
-      parsed = begins_whole extras old h.found held.bytes tape.given (h.parsed.incremental h.live) rest;
+      parsed = incremental_ends extras old h.found held.bytes tape.given (h.parsed.incremental h.live) rest;
       heard = h.heard;
     }
 

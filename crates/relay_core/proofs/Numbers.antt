@@ -5,6 +5,7 @@ use Rattle.std.proofs.lemmas.Grind.{common_steps}
 use Rattle.std.proofs.lemmas.Option.{get_or_from_slice_get, slice_get_within}
 use Rattle.mav_frame.specs.Packet.{Packet}
 use Rattle.mav_sign.specs.declared.admission.Admit.{Admit}
+use Rattle.mav_sign.specs.History.{is_admitted}
 use Rattle.mav_sign.specs.Kept.{Kept}
 use Rattle.mav_router.specs.Journal.{Rules}
 use Rattle.relay_rules.specs.States.{LinkState, RelayState, link_at, no_link, opened_link, taught}
@@ -87,16 +88,13 @@ rising_none = record {
   most = λ i a here. absurd (nothing_there i here);
 }
 
-rising_state : RelayState → Type 0
-rising_state state = Rising state.given state.links
-
 one_step : (rules : Rules) (event : Event) (before after : Course) → Goes rules event before after → Rising before.state.given before.state.links → Rising after.state.given after.state.links
 one_step rules (opens number port) before after g r =
     subst (λ (s : RelayState). Rising s.given s.links) (sym g.step.state) (rising_more before.state.given port before.state.links r)
 one_step rules (closes number) before after g r =
     subst (λ (s : RelayState). Rising s.given s.links) (sym g.step.state) (rising_less before.state.given g.step.index before.state.links r)
 one_step rules (hears number packet answer) before after g r =
-    subst (λ (s : RelayState). Rising s.given s.links) (sym g.step.state) (rising_set before.state.given g.step.index before.state.links _ refl r)
+    subst (λ (s : RelayState). Rising s.given s.links) (sym g.step.state) (rising_set before.state.given g.step.index before.state.links (taught (is_admitted answer) packet.from (link_at before.state.links g.step.index)) refl r)
 one_step rules (refuses port packet answer) before after g r =
     subst (λ (n : ℕ). Rising n after.state.links) (sym g.step.given) (subst (λ (l : List LinkState). Rising before.state.given l) (sym g.step.links) r)
 

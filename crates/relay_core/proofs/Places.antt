@@ -1,7 +1,9 @@
 -- What stands at a place of a list.
 use Rattle.std.proofs.Common.{◌≡◌, ◌∙◌, ◌<◌, ◌≤◌, ◌⊎◌, inl, inr, ℕ, zero, suc, ◌+◌, ◌-◌, List, [], ◌∷◌, ◌++◌, length, get_or, set, Option, Some, None, slice_get, refl, sym, ap, subst, arith, length-append, length-set}
+use Rattle.std.specs.List.{remove}
 use Rattle.std.proofs.lemmas.Option.{get_or_from_slice_get, slice_get_within, slice_get-get_or}
 use Rattle.std.proofs.lemmas.List.{get_or-set_same, get_or-set_other}
+use Rattle.relay_rules.proofs.Numbering.{got_less}
 use Rattle.relay_core.specs.Flows.{each_from}
 
 pub same_some : {A : Type 0} {x y : A} → Some x ≡ Some y → x ≡ y
@@ -60,3 +62,27 @@ each_got {A} f n (suc k) (x ∷ xs) y e =
 pub each_length : {A : Type 0} (f : ℕ → A → A) (n : ℕ) (xs : List A) → length (each_from f n xs) ≡ length xs
 each_length {A} f n [] = refl
 each_length {A} f n (x ∷ xs) = ap suc (each_length f (n + 1) xs)
+
+-- ---- one item less
+
+pub still_there : {A : Type 0} (xs : List A) (at k : ℕ) (x : A) → (k ≡ at → ⊥) → slice_get xs k ≡ Some x → (i : ℕ) × (slice_get (remove xs at) i ≡ Some x)
+still_there [] at k x apart e = absurd (nothing_there k e)
+still_there (y ∷ xs) zero zero x apart e = absurd (apart refl)
+still_there (y ∷ xs) zero (suc k) x apart e = (k, e)
+still_there (y ∷ xs) (suc at) zero x apart e = (0, e)
+still_there (y ∷ xs) (suc at) (suc k) x apart e =
+    let h = still_there xs at k x (λ s. apart (ap suc s)) e in
+    (suc h.0, h.1)
+
+-- the same item before and after the one that goes, in two lists
+pub less_place : {A B : Type 0} (xs : List A) (ys : List B) (at k : ℕ) (x : A) (y : B) → slice_get (remove xs at) k ≡ Some x → slice_get (remove ys at) k ≡ Some y → (j : ℕ) × (slice_get xs j ≡ Some x) × (slice_get ys j ≡ Some y)
+less_place {A} {B} xs ys at k x y e f = elim (got_less xs at k x e) [
+  | inl h ↦ elim (got_less ys at k y f) [
+    | inl g ↦ (k, h.1, g.1)
+    | inr g ↦ absurd (omega (arith, h.0, g.0))
+  ]
+  | inr h ↦ elim (got_less ys at k y f) [
+    | inl g ↦ absurd (omega (arith, h.0, g.0))
+    | inr g ↦ (suc k, h.1, g.1)
+  ]
+]

@@ -33,9 +33,9 @@ pub record HasClosedWith (rules : Rules) (start : Kept) (index dropped : ℕ) (r
   pub goes_on : RunIs rules start (closed_run index run) new
   pub lost : (link : LinkState) (flow : Flow) (tape : Tape) → IsOpenAt run index link flow tape → (all : ℕ) × WasSent all flow tape × (dropped ≡ counted all)
 
-abbrev pub Closes : Rules → ℕ → ℕ → RelayKept → RelayKept → Type 0
-Closes rules index dropped old new =
-    (start : Kept) (run : RelayRun) → IsRun rules start run → Holds rules run old → HasClosedWith rules start index dropped run new
+abbrev pub Closes : ℕ → ℕ → RelayKept → RelayKept → Type 0
+Closes index dropped old new =
+    (rules : Rules) (start : Kept) (run : RelayRun) → IsRun rules start run → Holds rules run old → HasClosedWith rules start index dropped run new
 
 -- these bytes are on the link's tape, and more events have happened, of which the watcher was told
 pub record HasHeard (rules : Rules) (start : Kept) (index : ℕ) (bytes : List ℕ) (run : RelayRun) (new : RelayKept) (told telling : Option (List Told)) : Type 0 where
@@ -51,6 +51,6 @@ Hears rules index bytes old new told telling =
     (start : Kept) (run : RelayRun) → IsRun rules start run → Holds rules run old → HasHeard rules start index bytes run new told telling
 
 -- so many of the bytes that are next are on its tape
-abbrev pub Takes : Rules → ℕ → ℕ → RelayKept → RelayKept → Type 0
-Takes rules index count old new =
-    (start : Kept) (run : RelayRun) (waiting : WaitingState) → IsRun rules start run → Holds rules run old → slice_get old.queues index ≡ Some waiting → RunIs rules start (took_run index (take count (next_bytes waiting.queue)) run) new
+abbrev pub Takes : ℕ → ℕ → RelayKept → RelayKept → Type 0
+Takes index count old new =
+    (rules : Rules) (start : Kept) (run : RelayRun) (waiting : WaitingState) → IsRun rules start run → Holds rules run old → slice_get old.queues index ≡ Some waiting → RunIs rules start (took_run index (take count (next_bytes waiting.queue)) run) new

@@ -70,14 +70,15 @@ flows_after rules (closes number) links flows = flows
 flows_after rules (hears number packet answer) links flows = each_from (flow_after rules packet answer links number) 1 flows
 flows_after rules (refuses port packet answer) links flows = flows
 
+abbrev pub one_told : ℕ → Packet → Admit → List ℕ → List Told
+one_told number packet answer to = (record { number = number; packet = packet; answer = answer; to = to }) ∷ []
+
 -- what is told of an event
 abbrev pub told_of : Rules → Event → List LinkState → List Told
 told_of rules (opens number port) links = []
 told_of rules (closes number) links = []
-told_of rules (hears number packet answer) links =
-    (record { number = number; packet = packet; answer = answer; to = ways_to rules packet answer links number }) ∷ []
-told_of rules (refuses port packet answer) links =
-    (record { number = 0; packet = packet; answer = answer; to = [] }) ∷ []
+told_of rules (hears number packet answer) links = one_told number packet answer (ways_to rules packet answer links number)
+told_of rules (refuses port packet answer) links = one_told 0 packet answer []
 
 -- how far a relay is in its history: its state, what came in and went out so far, and what was told
 pub record Course : Type 0 where

@@ -10,7 +10,7 @@ use Rattle.relay_rules.specs.Kept.{LinksKept, Represents}
 use Rattle.relay_rules.specs.States.{LinkState, RelayState, closed, link_at, opened}
 use Rattle.relay_rules.specs.Steps.{Hears, closes, opens}
 use Rattle.relay_rules.specs.declared.links.OpenLink.{OpenLink}
-use Rattle.relay_core.specs.Flows.{Course, Flow, Told, no_flow, passes}
+use Rattle.relay_core.specs.Flows.{Told, no_flow, one_told, passes}
 use Rattle.relay_core.specs.RelayRuns.{HoldsSoFar, Holds, IsRun, RelayKept, RelayRun, Tape, WasSent}
 use Rattle.relay_core.specs.Waitings.{WaitingState, WaitsAt}
 
@@ -33,12 +33,7 @@ pub record FrameGoes (rules : Rules) (index : ℕ) (packet : Packet) (before : R
   pub links_are : Represents links after
   pub ways : (k : ℕ) → k < length before.links → goes k ≡ passes rules packet answer (link_at before.links index) (link_at before.links k)
   pub waits : WaitsAt (length queues) goes (encoding packet) queues waiting
-  pub tells_it : telling ≡ tells told ((record {
-    number = (link_at before.links index).number;
-    packet = packet;
-    answer = answer;
-    to = map (λ (link : LinkState). link.number) (filter (passes rules packet answer (link_at before.links index)) before.links);
-  }) ∷ [])
+  pub tells_it : telling ≡ tells told (one_told (link_at before.links index).number packet answer (map (λ (link : LinkState). link.number) (filter (passes rules packet answer (link_at before.links index)) before.links)))
 
 -- a run goes on, without a byte more, and holds of what a relay keeps now
 pub record Moved (rules : Rules) (start : Kept) (run : RelayRun) (new : RelayKept) (told telling : Option (List Told)) : Type 0 where

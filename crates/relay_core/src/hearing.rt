@@ -1,9 +1,10 @@
 // What a frame does that comes in at a link.
-ghost use Rattle.std.specs.Prelude.{◌≡◌, ◌+◌, ◌<◌, ◌≤◌, ◌∷◌, [], length, take, slice_get, Some, OnOk, ℕ};
+ghost use Rattle.std.specs.Prelude.{◌≡◌, ◌+◌, ◌<◌, ◌≤◌, length, take, slice_get, Some, OnOk, ℕ};
 ghost use Rattle.link_table.specs.OpenLinks.{has_link};
 ghost use Rattle.relay_rules.specs.Kept.{Represents};
 ghost use Rattle.relay_rules.specs.States.{RelayState};
 ghost use Rattle.relay_rules.specs.declared.links.OpenLink.{OpenLink};
+ghost use Rattle.relay_core.specs.Flows.{one_told};
 ghost use Rattle.relay_core.specs.Moves.{FrameGoes, numbers_of, tells};
 
 use crate::NoMemory;
@@ -42,12 +43,7 @@ fn tell<W: Watcher>(
 )
     requires within { index < length links.now.links }
     ensures { (link : OpenLink) → slice_get links.now.links index ≡ Some link
-        → W.told watcher.new ≡ tells (W.told watcher.old) ((record {
-            number = link.number;
-            packet = frame.now;
-            answer = heard.admit;
-            to = numbers_of (has_link heard.ways.bits) 0 links.now.links;
-        }) ∷ []) }
+        → W.told watcher.new ≡ tells (W.told watcher.old) (one_told link.number frame.now heard.admit (numbers_of (has_link heard.ways.bits) 0 links.now.links)) }
 {
     let mut numbers = [0; LINK_LIMIT];
     let count = put_numbers(links, heard.ways, &mut numbers);

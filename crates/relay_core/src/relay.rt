@@ -103,9 +103,9 @@ impl Relay {
 
     /// Closes the open link with that index; each later link's index is one less. Returns how many of its frames were
     /// dropped in all, with those that weren't written to their ends.
-    pub fn close(&mut self, rules: &RouterRules<'_>, index: usize) -> u64
+    pub fn close(&mut self, index: usize) -> u64
         requires { index < length self.old.links.links }
-        ensures closes { Closes rules.now index result self.old self.new }
+        ensures closes { Closes index result self.old self.new }
     {
         self.links.close(index);
         self.scanners.close(index);
@@ -145,10 +145,10 @@ impl Relay {
     }
 
     /// That link took so many of them.
-    pub fn wrote(&mut self, rules: &RouterRules<'_>, index: usize, count: usize)
+    pub fn wrote(&mut self, index: usize, count: usize)
         requires within { index < length self.old.links.links }
         requires count { (waiting : WaitingState) → slice_get self.old.queues index ≡ Some waiting → count ≤ length (next_bytes waiting.queue) }
-        ensures takes { Takes rules.now index count self.old self.new }
+        ensures takes { Takes index count self.old self.new }
     {
         self.queues.wrote(index, count);
     }

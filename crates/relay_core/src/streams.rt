@@ -32,7 +32,7 @@ fn hear_next<W: Watcher>(
     ensures others { OthersKept index scanners.old scanners.new }
     ensures count { length queues.new ≡ length queues.old }
     ensures fewer { IfOk result (λ more. more ≡ true → length (held_at scanners.new index).bytes < length (held_at scanners.old index).bytes) }
-    ensures rests { IfOk result (λ more. more ≡ false → IsResting (held_at scanners.new index)) }
+    ensures rests { IfOk result (λ more. more ≡ false → (held_at scanners.new index).ended ≡ false → IsResting (held_at scanners.new index)) }
 {
     match scanners.next_span(index) {
         NextSpan::Need => Ok(false),
@@ -67,7 +67,7 @@ pub(crate) fn hear_all<W: Watcher>(
     ensures links { links.new.links ≡ links.old.links }
     ensures others { OthersKept index scanners.old scanners.new }
     ensures count { length queues.new ≡ length queues.old }
-    ensures rests { OnOk result (IsResting (held_at scanners.new index)) }
+    ensures rests { OnOk result ((held_at scanners.new index).ended ≡ false → IsResting (held_at scanners.new index)) }
 {
     while hear_next(links, scanners, queues, rules, index, watcher)? {}
     Ok(())

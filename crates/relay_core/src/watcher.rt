@@ -1,5 +1,6 @@
 // Who is told of the frames that come in.
-ghost use Rattle.std.specs.Prelude.{◌≡◌, ◌∷◌, []};
+ghost use Rattle.std.specs.Prelude.{◌≡◌};
+ghost use Rattle.relay_core.specs.Flows.{one_told};
 ghost use Rattle.relay_core.specs.Moves.{tells};
 
 use mav_frame::RawFrame;
@@ -16,5 +17,5 @@ pub trait Watcher {
     /// A frame came in at the link with that number, or, if it is 0, of somebody who has no link. These are the verdict,
     /// and the numbers of the links that it goes to, in the order of their opening.
     fn tell(&mut self, number: u64, frame: &RawFrame<'_>, answer: Admit, to: &[u64])
-        ensures { told self.new ≡ tells (told self.old) ((record { number = number; packet = frame.now; answer = answer; to = to.now }) ∷ []) };
+        ensures { told self.new ≡ tells (told self.old) (one_told number frame.now answer to.now) };
 }
