@@ -1,8 +1,11 @@
 mod CallSteps
+mod Fewer
 mod FrameSteps
+mod FrameTried
 mod Halves
 mod Numbers
 mod Passing
 mod Places
+mod Results
 mod TapeSteps
 mod Telling

@@ -1,5 +1,5 @@
 -- What bytes that a link gives or takes leave of a run.
-use Rattle.std.proofs.Common.{◌≡◌, ◌∙◌, ◌<◌, ◌≤◌, ℕ, ◌+◌, ◌-◌, List, [], ◌∷◌, ◌++◌, length, get_or, set, take, min, false, slice_get, Option, Some, refl, sym, ap, subst, arith, length-set}
+use Rattle.std.proofs.Common.{◌≡◌, ◌∙◌, ◌<◌, ◌≤◌, ◌⊎◌, inl, inr, ℕ, ◌+◌, ◌-◌, List, [], ◌∷◌, ◌++◌, length, get_or, set, take, min, false, slice_get, Option, Some, refl, sym, ap, subst, arith, length-set}
 use Rattle.std.proofs.lemmas.Option.{get_or_from_slice_get, slice_get_within, slice_get-get_or}
 use Rattle.mav_sign.specs.Kept.{Kept}
 use Rattle.mav_stream.specs.Held.{Held, nothing_held}

@@ -1,5 +1,6 @@
 -- What is told, one frame after another.
-use Rattle.std.proofs.Common.{◌≡◌, ◌∙◌, ◌<◌, ℕ, zero, suc, ◌+◌, Bool, true, false, if◌then◌else◌, List, [], ◌∷◌, ◌++◌, length, map, filter, get_or, Option, Some, None, refl, sym, ap, arith, append_assoc}
+use Rattle.std.proofs.Common.{◌≡◌, ◌∙◌, ◌<◌, ◌≤◌, ℕ, zero, suc, ◌+◌, Bool, true, false, if◌then◌else◌, List, [], ◌∷◌, ◌++◌, length, map, filter, get_or, set, take, drop, slice_get, Option, Some, None, refl, sym, ap, arith, append_assoc}
+use Rattle.std.proofs.lemmas.List.{append-nil}
 use Rattle.mav_sign.specs.Kept.{Kept}
 use Rattle.mav_router.specs.Journal.{Rules}
 use Rattle.relay_rules.specs.Kept.{head_of}
@@ -8,6 +9,7 @@ use Rattle.relay_rules.specs.declared.links.OpenLink.{OpenLink}
 use Rattle.relay_core.specs.Flows.{Told}
 use Rattle.relay_core.specs.Moves.{Moved, Moves, numbers_of, tells}
 use Rattle.relay_core.specs.RelayRuns.{HoldsSoFar, IsRun, RelayKept, RelayRun}
+use Rattle.relay_core.proofs.Places.{nothing_there, same_some}
 
 pub tells_more : (told : Option (List Told)) (a b : List Told) → tells (tells told a) b ≡ tells told (a ++ b)
 tells_more None a b = refl
@@ -57,3 +59,47 @@ numbers_passing goes P k (l ∷ links) same =
     both : (b : Bool) → (if b then l.number ∷ map (λ (l : LinkState). l.number) (filter P links) else map (λ (l : LinkState). l.number) (filter P links)) ≡ map (λ (l : LinkState). l.number) (if b then l ∷ filter P links else filter P links)
     both true = refl
     both false = refl
+
+-- ---- the numbers are put one after another
+
+next_link : (links : List OpenLink) (at : ℕ) (x : OpenLink) → slice_get links at ≡ Some x → drop at links ≡ x ∷ drop (at + 1) links
+next_link [] at x e = absurd (nothing_there at e)
+next_link (l ∷ links) zero x e = ap (λ (o : OpenLink). o ∷ links) (same_some e) ∙ ap (λ (r : List OpenLink). x ∷ r) (sym (none links))
+  where
+    none : (xs : List OpenLink) → drop 0 xs ≡ xs
+    none [] = refl
+    none (x ∷ xs) = refl
+next_link (l ∷ links) (suc at) x e = next_link links at x e ∙ (let same : suc (at + 1) ≡ suc at + 1 = omega arith in ap (λ (n : ℕ). x ∷ drop n (l ∷ links)) same)
+
+take_set : (numbers : List ℕ) (count v : ℕ) → count < length numbers → take (count + 1) (set numbers count v) ≡ take count numbers ++ v ∷ []
+take_set [] count v l = absurd (omega (arith, l))
+take_set (n ∷ ns) zero v l = ap (λ (r : List ℕ). v ∷ r) (none ns)
+  where
+    none : (xs : List ℕ) → take 0 xs ≡ []
+    none [] = refl
+    none (x ∷ xs) = refl
+take_set (n ∷ ns) (suc count) v l =
+    let same : suc count + 1 ≡ suc (count + 1) = omega arith in
+    ap (λ (m : ℕ). take m (n ∷ set ns count v)) same ∙ ap (λ (r : List ℕ). n ∷ r) (take_set ns count v (omega (arith, l)))
+
+pub put_more : (goes : ℕ → Bool) (at count : ℕ) (links : List OpenLink) (numbers whole : List ℕ) (x : OpenLink) → slice_get links at ≡ Some x → count < length numbers → goes at ≡ true → take count numbers ++ numbers_of goes at (drop at links) ≡ whole → take (count + 1) (set numbers count x.number) ++ numbers_of goes (at + 1) (drop (at + 1) links) ≡ whole
+put_more goes at count links numbers whole x there room is inv =
+    let rest = numbers_of goes (at + 1) (drop (at + 1) links) in
+    let next : numbers_of goes at (drop at links) ≡ x.number ∷ rest = ap (numbers_of goes at) (next_link links at x there) ∙ ap (λ (b : Bool). if b then x.number ∷ rest else rest) is in
+    ap (λ (l : List ℕ). l ++ rest) (take_set numbers count x.number room) ∙ (append_assoc (take count numbers) (x.number ∷ []) rest ∙ (ap (λ (l : List ℕ). take count numbers ++ l) (sym next) ∙ inv))
+
+pub put_none : (goes : ℕ → Bool) (at count : ℕ) (links : List OpenLink) (numbers whole : List ℕ) (x : OpenLink) → slice_get links at ≡ Some x → goes at ≡ false → take count numbers ++ numbers_of goes at (drop at links) ≡ whole → take count numbers ++ numbers_of goes (at + 1) (drop (at + 1) links) ≡ whole
+put_none goes at count links numbers whole x there is inv =
+    let rest = numbers_of goes (at + 1) (drop (at + 1) links) in
+    let next : numbers_of goes at (drop at links) ≡ rest = ap (numbers_of goes at) (next_link links at x there) ∙ ap (λ (b : Bool). if b then x.number ∷ rest else rest) is in
+    ap (λ (l : List ℕ). take count numbers ++ l) (sym next) ∙ inv
+
+pub put_all : (goes : ℕ → Bool) (at count : ℕ) (links : List OpenLink) (numbers whole : List ℕ) → length links ≤ at → take count numbers ++ numbers_of goes at (drop at links) ≡ whole → take count numbers ≡ whole
+put_all goes at count links numbers whole past inv =
+    sym (append-nil (take count numbers)) ∙ (ap (λ (l : List OpenLink). take count numbers ++ numbers_of goes at l) (sym (nothing_left links at past)) ∙ inv)
+  where
+    nothing_left : (xs : List OpenLink) (n : ℕ) → length xs ≤ n → drop n xs ≡ []
+    nothing_left [] zero l = refl
+    nothing_left [] (suc n) l = refl
+    nothing_left (x ∷ xs) zero l = absurd (omega (arith, l))
+    nothing_left (x ∷ xs) (suc n) l = nothing_left xs n (omega (arith, l))
