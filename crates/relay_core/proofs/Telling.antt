@@ -1,6 +1,7 @@
 -- What is told, one frame after another.
 use Rattle.std.proofs.Common.{◌≡◌, ◌∙◌, ◌<◌, ◌≤◌, ℕ, zero, suc, ◌+◌, Bool, true, false, if◌then◌else◌, List, [], ◌∷◌, ◌++◌, length, map, filter, get_or, set, take, drop, slice_get, Option, Some, None, refl, sym, ap, arith, append_assoc}
 use Rattle.std.proofs.lemmas.List.{append-nil}
+use Rattle.std.proofs.lemmas.Option.{slice_get-get_or}
 use Rattle.mav_sign.specs.Kept.{Kept}
 use Rattle.mav_router.specs.Journal.{Rules}
 use Rattle.relay_rules.specs.Kept.{head_of}
@@ -88,8 +89,10 @@ put_more goes at count links numbers whole x there room is inv =
     let next : numbers_of goes at (drop at links) ≡ x.number ∷ rest = ap (numbers_of goes at) (next_link links at x there) ∙ ap (λ (b : Bool). if b then x.number ∷ rest else rest) is in
     ap (λ (l : List ℕ). l ++ rest) (take_set numbers count x.number room) ∙ (append_assoc (take count numbers) (x.number ∷ []) rest ∙ (ap (λ (l : List ℕ). take count numbers ++ l) (sym next) ∙ inv))
 
-pub put_none : (goes : ℕ → Bool) (at count : ℕ) (links : List OpenLink) (numbers whole : List ℕ) (x : OpenLink) → slice_get links at ≡ Some x → goes at ≡ false → take count numbers ++ numbers_of goes at (drop at links) ≡ whole → take count numbers ++ numbers_of goes (at + 1) (drop (at + 1) links) ≡ whole
-put_none goes at count links numbers whole x there is inv =
+pub put_none : (goes : ℕ → Bool) (at count : ℕ) (links : List OpenLink) (numbers whole : List ℕ) → at < length links → goes at ≡ false → take count numbers ++ numbers_of goes at (drop at links) ≡ whole → take count numbers ++ numbers_of goes (at + 1) (drop (at + 1) links) ≡ whole
+put_none goes at count links numbers whole within is inv =
+    let x = get_or links at (record { number = 0; port = 0 }) in
+    let there = slice_get-get_or links at (record { number = 0; port = 0 }) within in
     let rest = numbers_of goes (at + 1) (drop (at + 1) links) in
     let next : numbers_of goes at (drop at links) ≡ rest = ap (numbers_of goes at) (next_link links at x there) ∙ ap (λ (b : Bool). if b then x.number ∷ rest else rest) is in
     ap (λ (l : List ℕ). take count numbers ++ l) (sym next) ∙ inv
