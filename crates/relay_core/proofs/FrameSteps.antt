@@ -1,6 +1,7 @@
 -- A run goes on with a frame.
 use Rattle.std.proofs.Common.{◌≡◌, ◌∙◌, ◌<◌, ◌≤◌, ◌⊎◌, inl, inr, ℕ, zero, suc, ◌+◌, ◌-◌, ◌==◌, ◌&&◌, Bool, true, false, if◌then◌else◌, List, [], ◌∷◌, ◌++◌, length, map, filter, get_or, set, slice_get, Option, Some, None, option_map, refl, sym, ap, subst, arith}
 use Rattle.std.proofs.lemmas.Bool.{cases_Bool}
+use Rattle.std.proofs.lemmas.List.{append-nil}
 use Rattle.std.proofs.lemmas.Option.{get_or_from_slice_get, slice_get_within, slice_get-get_or}
 use Rattle.mav_names.specs.declared.names.Name.{Name}
 use Rattle.mav_frame.specs.Packet.{Packet}
@@ -193,6 +194,9 @@ frame_moves rules start run index size links later scanners queues waiting told 
             (w.0, was_sent_kept w.0 f.0 flow tape f.4 w.1);
       };
       tapes = refl;
+      since = event ∷ [];
+      events = refl;
+      frames = tt;
       more = told_of rules event state.links;
       course = refl;
       tells_it = g.tells_it ∙ ap (tells told) (sym own_is);
@@ -219,6 +223,9 @@ skip_moves rules start run index count why links scanners queues told held there
     sent = h.sent;
   };
   tapes = refl;
+  since = [];
+  events = sym (append-nil run.events);
+  frames = tt;
   more = [];
   course = sym (no_more run.course.told);
   tells_it = told_none told;

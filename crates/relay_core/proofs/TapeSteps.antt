@@ -193,6 +193,9 @@ hears_run rules start run index count bytes old new fed told telling within same
         };
       };
       tapes = m.tapes;
+      since = m.since;
+      events = m.events;
+      frames = m.frames;
       more = m.more;
       course = m.course;
       tells_it = m.tells_it;

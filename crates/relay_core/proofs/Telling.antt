@@ -6,9 +6,10 @@ use Rattle.mav_sign.specs.Kept.{Kept}
 use Rattle.mav_router.specs.Journal.{Rules}
 use Rattle.relay_rules.specs.Kept.{head_of}
 use Rattle.relay_rules.specs.States.{LinkState, link_at, no_link}
+use Rattle.relay_rules.specs.Steps.{Event, closes, hears, opens, refuses}
 use Rattle.relay_rules.specs.declared.links.OpenLink.{OpenLink}
 use Rattle.relay_core.specs.Flows.{Told}
-use Rattle.relay_core.specs.Moves.{Moved, Moves, numbers_of, tells}
+use Rattle.relay_core.specs.Moves.{AreHeard, Moved, Moves, numbers_of, tells}
 use Rattle.relay_core.specs.RelayRuns.{HoldsSoFar, IsRun, RelayKept, RelayRun}
 use Rattle.relay_core.proofs.Places.{nothing_there, same_some}
 
@@ -30,10 +31,20 @@ moves_none rules view told start run is h = record {
   is_run = is;
   holds = h;
   tapes = refl;
+  since = [];
+  events = sym (append-nil run.events);
+  frames = tt;
   more = [];
   course = no_more run.course.told;
   tells_it = tells_none told;
 }
+
+heard_more : (a b : List Event) → AreHeard a → AreHeard b → AreHeard (a ++ b)
+heard_more [] b f g = g
+heard_more (hears number packet answer ∷ a) b f g = heard_more a b f g
+heard_more (opens number port ∷ a) b f g = f
+heard_more (closes number ∷ a) b f g = f
+heard_more (refuses port packet answer ∷ a) b f g = f
 
 pub moves_on : (rules : Rules) (a b c : RelayKept) (s t u : Option (List Told)) → Moves rules a b s t → Moves rules b c t u → Moves rules a c s u
 moves_on rules a b c s t u first second start run is h =
@@ -44,6 +55,9 @@ moves_on rules a b c s t u first second start run is h =
       is_run = n.is_run;
       holds = n.holds;
       tapes = n.tapes ∙ m.tapes;
+      since = m.since ++ n.since;
+      events = n.events ∙ (ap (λ (l : List Event). l ++ n.since) m.events ∙ append_assoc run.events m.since n.since);
+      frames = heard_more m.since n.since m.frames n.frames;
       more = m.more ++ n.more;
       course = n.course ∙ (ap (λ (l : List Told). l ++ n.more) m.course ∙ append_assoc run.course.told m.more n.more);
       tells_it = n.tells_it ∙ (ap (λ (o : Option (List Told)). tells o n.more) m.tells_it ∙ tells_more s m.more n.more);

@@ -4,9 +4,10 @@ use Rattle.mav_sign.specs.Kept.{Kept, Represents as OfHistory}
 use Rattle.relay_queue.specs.Queues.{next_bytes}
 use Rattle.mav_router.specs.Journal.{Rules}
 use Rattle.relay_rules.specs.States.{LinkState}
+use Rattle.relay_rules.specs.Steps.{Event}
 use Rattle.relay_core.specs.Flows.{Flow, Told, nothing_yet}
 use Rattle.relay_core.specs.RelayRuns.{Holds, IsOpenAt, IsRun, RelayKept, RelayRun, Tape, WasSent}
-use Rattle.relay_core.specs.Moves.{closed_run, gave_run, opened_run, tells, took_run}
+use Rattle.relay_core.specs.Moves.{AreHeard, closed_run, gave_run, opened_run, tells, took_run}
 use Rattle.relay_core.specs.Waitings.{WaitingState, counted}
 
 -- before any event
@@ -37,11 +38,14 @@ abbrev pub Closes : ℕ → ℕ → RelayKept → RelayKept → Type 0
 Closes index dropped old new =
     (rules : Rules) (start : Kept) (run : RelayRun) → IsRun rules start run → Holds rules run old → HasClosedWith rules start index dropped run new
 
--- these bytes are on the link's tape, and more events have happened, of which the watcher was told
+-- these bytes are on the link's tape, and more frames have come in, of which the watcher was told
 pub record HasHeard (rules : Rules) (start : Kept) (index : ℕ) (bytes : List ℕ) (run : RelayRun) (new : RelayKept) (told telling : Option (List Told)) : Type 0 where
   pub now : RelayRun
   pub goes_on : RunIs rules start now new
   pub tapes : now.tapes ≡ (gave_run index bytes run).tapes
+  pub since : List Event
+  pub events : now.events ≡ run.events ++ since
+  pub frames : AreHeard since
   pub more : List Told
   pub course : now.course.told ≡ run.course.told ++ more
   pub tells_it : telling ≡ tells told more

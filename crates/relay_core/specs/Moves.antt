@@ -1,5 +1,5 @@
 -- What one call leads to, in any run.
-use Rattle.std.specs.Prelude.{ℕ, ◌≡◌, ◌+◌, ◌-◌, ◌<◌, ◌&&◌, Bool, false, if◌then◌else◌, List, [], ◌∷◌, ◌++◌, length, map, filter, get_or, slice_get, slice_set, Option, Some, option_map}
+use Rattle.std.specs.Prelude.{ℕ, ◌≡◌, ◌+◌, ◌-◌, ◌<◌, ◌&&◌, Bool, false, if◌then◌else◌, List, [], ◌∷◌, ◌++◌, length, map, filter, get_or, slice_get, slice_set, Option, Some, option_map, ⊤}
 use Rattle.mav_frame.specs.Packet.{Packet}
 use Rattle.mav_frame.specs.Encoding.{encoding}
 use Rattle.mav_sign.specs.declared.admission.Admit.{Admit}
@@ -8,7 +8,7 @@ use Rattle.mav_stream.specs.Held.{Held, nothing_held}
 use Rattle.mav_router.specs.Journal.{Rules}
 use Rattle.relay_rules.specs.Kept.{LinksKept, Represents}
 use Rattle.relay_rules.specs.States.{LinkState, RelayState, closed, link_at, opened}
-use Rattle.relay_rules.specs.Steps.{Hears, closes, opens}
+use Rattle.relay_rules.specs.Steps.{Event, Hears, closes, hears, opens, refuses}
 use Rattle.relay_rules.specs.declared.links.OpenLink.{OpenLink}
 use Rattle.relay_core.specs.Flows.{Told, no_flow, one_told, passes}
 use Rattle.relay_core.specs.RelayRuns.{HoldsSoFar, Holds, IsRun, RelayKept, RelayRun, Tape, WasSent}
@@ -35,12 +35,23 @@ pub record FrameGoes (rules : Rules) (index : ℕ) (packet : Packet) (before : R
   pub waits : WaitsAt (length queues) goes (encoding packet) queues waiting
   pub tells_it : telling ≡ tells told (one_told (link_at before.links index).number packet answer (map (λ (link : LinkState). link.number) (filter (passes rules packet answer (link_at before.links index)) before.links)))
 
--- a run goes on, without a byte more, and holds of what a relay keeps now
+-- frames come in, and no link opens or closes
+abbrev pub AreHeard : List Event → Type 0
+AreHeard [] = ⊤
+AreHeard (hears number packet answer ∷ events) = AreHeard events
+AreHeard (opens number port ∷ events) = ⊥
+AreHeard (closes number ∷ events) = ⊥
+AreHeard (refuses port packet answer ∷ events) = ⊥
+
+-- a run goes on with frames, without a byte more, and holds of what a relay keeps now
 pub record Moved (rules : Rules) (start : Kept) (run : RelayRun) (new : RelayKept) (told telling : Option (List Told)) : Type 0 where
   pub now : RelayRun
   pub is_run : IsRun rules start now
   pub holds : HoldsSoFar rules now new
   pub tapes : now.tapes ≡ run.tapes
+  pub since : List Event
+  pub events : now.events ≡ run.events ++ since
+  pub frames : AreHeard since
   pub more : List Told
   pub course : now.course.told ≡ run.course.told ++ more
   pub tells_it : telling ≡ tells told more

@@ -65,6 +65,7 @@ pub(crate) fn hear_frame<W: Watcher>(
     ensures goes { OnOk result ((state : RelayState) → Represents links.old state
         → FrameGoes rules.now index frame.now state links.new queues.old queues.new (W.told watcher.old) (W.told watcher.new)) }
     ensures links { links.new.links ≡ links.old.links }
+    ensures given { links.new.given ≡ links.old.given }
     ensures count { length queues.new ≡ length queues.old }
 {
     let judgement = judge(rules, frame);

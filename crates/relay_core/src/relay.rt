@@ -1,6 +1,6 @@
 // The switch of a relay.
-ghost use Rattle.std.specs.Prelude.{◌≡◌, ◌+◌, ◌<◌, ◌≤◌, ◌^◌, length, slice_get, Some, IfOk, OnOk, OnErr, IsTrue};
-ghost use Rattle.mav_sign.specs.Kept.{Kept, Represents as OfHistory};
+ghost use Rattle.std.specs.Prelude.{◌≡◌, ◌+◌, ◌<◌, ◌≤◌, ◌^◌, ◌++◌, ◌∷◌, [], length, slice_get, Some, IfOk, OnOk, OnErr, IsTrue};
+ghost use Rattle.std.specs.List.{remove};
 ghost use Rattle.relay_queue.specs.Queues.{next_bytes};
 ghost use Rattle.relay_core.specs.Calls.{Closes, Hears, IsNew, Opens, Takes};
 ghost use Rattle.relay_core.specs.Waitings.{WaitingState, lost};
@@ -93,6 +93,7 @@ impl Relay {
         requires numbers { self.old.links.given + 1 < 2 ^ 64 }
         ensures number { IfOk result (λ number. number ≡ self.old.links.given + 1) }
         ensures opens { OnOk result (Opens rules.now port self.old self.new) }
+        ensures links { IfOk result (λ number. self.new.links.links ≡ self.old.links.links ++ (record { number = number; port = port }) ∷ []) }
         ensures unchanged { OnErr result (self.new ≡ self.old) }
     {
         let scanner = self.scanners.make(rules, port)?;
@@ -106,6 +107,8 @@ impl Relay {
     pub fn close(&mut self, index: usize) -> u64
         requires { index < length self.old.links.links }
         ensures closes { Closes index result self.old self.new }
+        ensures links { self.new.links.links ≡ remove self.old.links.links index }
+        ensures given { self.new.links.given ≡ self.old.links.given }
     {
         self.links.close(index);
         self.scanners.close(index);
@@ -124,6 +127,8 @@ impl Relay {
         requires within { index < length self.old.links.links }
         requires short { length bytes.now ≤ 65536 }
         ensures hears { OnOk result (Hears rules.now index bytes.now self.old self.new (W.told watcher.old) (W.told watcher.new)) }
+        ensures links { self.new.links.links ≡ self.old.links.links }
+        ensures given { self.new.links.given ≡ self.old.links.given }
     {
         let _taken = self.scanners.feed(index, bytes);
         hear_all(
@@ -149,6 +154,7 @@ impl Relay {
         requires within { index < length self.old.links.links }
         requires count { (waiting : WaitingState) → slice_get self.old.queues index ≡ Some waiting → count ≤ length (next_bytes waiting.queue) }
         ensures takes { Takes index count self.old self.new }
+        ensures links { self.new.links ≡ self.old.links }
     {
         self.queues.wrote(index, count);
     }

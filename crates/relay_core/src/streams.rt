@@ -29,6 +29,7 @@ fn hear_next<W: Watcher>(
         (record { links = links.new; scanners = scanners.new; queues = queues.new })
         (W.told watcher.old) (W.told watcher.new)) }
     ensures links { links.new.links ≡ links.old.links }
+    ensures given { links.new.given ≡ links.old.given }
     ensures others { OthersKept index scanners.old scanners.new }
     ensures count { length queues.new ≡ length queues.old }
     ensures fewer { IfOk result (λ more. more ≡ true → length (held_at scanners.new index).bytes < length (held_at scanners.old index).bytes) }
@@ -65,6 +66,7 @@ pub(crate) fn hear_all<W: Watcher>(
         (record { links = links.new; scanners = scanners.new; queues = queues.new })
         (W.told watcher.old) (W.told watcher.new)) }
     ensures links { links.new.links ≡ links.old.links }
+    ensures given { links.new.given ≡ links.old.given }
     ensures others { OthersKept index scanners.old scanners.new }
     ensures count { length queues.new ≡ length queues.old }
     ensures rests { OnOk result ((held_at scanners.new index).ended ≡ false → IsResting (held_at scanners.new index)) }

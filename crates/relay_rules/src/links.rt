@@ -235,6 +235,7 @@ impl Links {
         ensures state { (state : RelayState) → Represents self.old state
             → Represents self.new (heard index (is_admitted result.admit) frame.now.from self.new.kept state) }
         ensures links { self.new.links ≡ self.old.links }
+        ensures given { self.new.given ≡ self.old.given }
     {
         let link = self.link(index);
         let is_open = rules.plain().has(link.port);
@@ -265,6 +266,7 @@ impl Links {
         ensures few { (k : ℕ) → length self.old.links ≤ k → has_link result.bits k ≡ false }
         ensures kept { self.new.kept ≡ self.old.kept }
         ensures links { self.new.links ≡ self.old.links }
+        ensures given { self.new.given ≡ self.old.given }
         ensures state { (state : RelayState) → Represents self.old state
             → Represents self.new (heard index (is_admitted admit) frame.now.from self.old.kept state) }
     {
@@ -290,6 +292,7 @@ impl Links {
         ensures few { (k : ℕ) → length self.old.links ≤ k → has_link result.bits k ≡ false }
         ensures kept { self.new.kept ≡ self.old.kept }
         ensures links { self.new.links ≡ self.old.links }
+        ensures given { self.new.given ≡ self.old.given }
         ensures state { (state : RelayState) → Represents self.old state
             → Represents self.new (heard index true frame.now.from self.old.kept state) }
     {

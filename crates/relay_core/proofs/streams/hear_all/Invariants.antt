@@ -9,6 +9,7 @@ invariant-loop g l =
       (record { links = l.links; scanners = l.scanners; queues = l.queues })
       (g.W.Watcher.told l.fn.watcher) (g.W.Watcher.told l.watcher)
     × (l.links.links ≡ l.fn.links.links)
+    × (l.links.given ≡ l.fn.links.given)
     × OthersKept l.fn.index l.fn.scanners l.scanners
     × (length l.queues ≡ length l.fn.queues)
 

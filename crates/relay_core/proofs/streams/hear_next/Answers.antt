@@ -8,7 +8,12 @@ use Rattle.relay_core.specs.Moves.{FrameGoes, Moved, held_at}
 use Rattle.relay_core.proofs.Fewer.{fewer_held, held_there, others_kept}
 use Rattle.relay_core.proofs.FrameSteps.{frame_moves, skip_moves}
 use Rattle.relay_core.proofs.Halves.{needs_rest}
+use Rattle.relay_core.proofs.Telling.{moves_none}
 use Rattle.relay_core.proofs.streams.hear_next.Goals as goal
+
+pub returns-in-Need-clause-moves : goal.returns-in-Need-clause-moves
+returns-in-Need-clause-moves g c =
+    moves_none c.args.rules.now (record { links = c.args.links.now; scanners = c.args.scanners.now; queues = c.args.queues.now }) (g.W.Watcher.told c.args.watcher.now)
 
 pub returns-in-Need-clause-rests : goal.returns-in-Need-clause-rests
 returns-in-Need-clause-rests g c = λ e live.

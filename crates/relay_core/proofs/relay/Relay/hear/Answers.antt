@@ -6,8 +6,8 @@ use Rattle.relay_core.proofs.Results.{map_both}
 use Rattle.relay_core.proofs.TapeSteps.{hears_run}
 use Rattle.relay_core.proofs.relay.Relay.hear.Goals as goal
 
-pub returns : goal.returns
-returns g c =
+pub returns-clause-hears : goal.returns-clause-hears
+returns-clause-hears g c =
     let inside = c.self.inside in
     let rules = c.args.rules.now in
     let index = c.args.index in
@@ -16,14 +16,12 @@ returns g c =
     let old : RelayKept = record { links = inside.links; scanners = inside.scanners; queues = inside.queues } in
     let new : RelayKept = record { links = c.hear_all.new.links; scanners = c.hear_all.new.scanners; queues = c.hear_all.new.queues } in
     let within = subst (λ (v : RelayKept). index < length v.links.links) (sym c.self.view_is) c.requires.within in
-    record {
-      hears = map_both c.hear_all.result
-          (Moves rules (record { links = inside.links; scanners = c.feed-taken.new.self; queues = inside.queues }) new told telling)
-          ((held_at c.hear_all.new.scanners index).ended ≡ false → IsResting (held_at c.hear_all.new.scanners index))
-          (Hears rules index c.args.bytes.now c.args.self.now new told telling)
-          (λ moves rests start run is holds.
-              hears_run rules start run index c.feed-taken.result c.args.bytes.now old new c.feed-taken.new.self told telling within c.hear_all.ensures.links c.self.invariant.0 c.requires.short c.feed-taken.ensures.feeds moves c.hear_all.ensures.others rests is
-              (subst (λ (v : RelayKept). Holds rules run v) (sym c.self.view_is) holds))
-          c.hear_all.ensures.moves
-          c.hear_all.ensures.rests;
-    }
+    map_both c.hear_all.result
+    (Moves rules (record { links = inside.links; scanners = c.feed-taken.new.self; queues = inside.queues }) new told telling)
+    ((held_at c.hear_all.new.scanners index).ended ≡ false → IsResting (held_at c.hear_all.new.scanners index))
+    (Hears rules index c.args.bytes.now c.args.self.now new told telling)
+    (λ moves rests start run is holds.
+        hears_run rules start run index c.feed-taken.result c.args.bytes.now old new c.feed-taken.new.self told telling within c.hear_all.ensures.links c.self.invariant.0 c.requires.short c.feed-taken.ensures.feeds moves c.hear_all.ensures.others rests is
+        (subst (λ (v : RelayKept). Holds rules run v) (sym c.self.view_is) holds))
+    c.hear_all.ensures.moves
+    c.hear_all.ensures.rests
