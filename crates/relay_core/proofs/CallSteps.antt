@@ -81,8 +81,7 @@ opened_before run port k link flow tape r flows tapes there o =
 -- the link that opened
 opened_last : (run : RelayRun) (port k : ℕ) (link : LinkState) (flow : Flow) (tape : Tape) → length run.course.flows ≡ run.course.state.given → length run.tapes ≡ run.course.state.given → link ≡ opened_link (run.course.state.given + 1) port → IsOpenAt (opened_run port run) k link flow tape → (no_flow port ≡ flow) × (no_tape ≡ tape)
 opened_last run port k link flow tape flows tapes is o =
-    let number = ap (λ (l : LinkState). l.number) is in
-    (
+    let number = ap (λ (l : LinkState). l.number) is in (
       same_some (sym (more_last run.course.flows (no_flow port) (link.number - 1) (omega (arith, number, flows))) ∙ o.flow_is),
       same_some (sym (more_last run.tapes no_tape (link.number - 1) (omega (arith, number, tapes))) ∙ o.tape_is),
     )

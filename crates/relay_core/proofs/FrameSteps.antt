@@ -13,13 +13,14 @@ use Rattle.mav_stream.specs.Held.{Held}
 use Rattle.mav_stream.specs.Spans.{IsNextSpan, first_packet}
 use Rattle.mav_stream.specs.declared.spans.NextSpan.TheVariants.{Frame, Skipped}
 use Rattle.mav_frame.specs.declared.looks.Why.{Why}
+use Rattle.link_table.specs.OpenLinks.{has_link}
 use Rattle.mav_router.specs.Journal.{Rules}
 use Rattle.relay_rules.specs.Kept.{LinksKept, Represents, head_of}
 use Rattle.relay_rules.specs.States.{LinkState, RelayState, link_at, no_link, taught}
 use Rattle.relay_rules.specs.Steps.{Event, Hears, hears}
 use Rattle.relay_rules.specs.declared.links.OpenLink.{OpenLink}
 use Rattle.relay_core.specs.Flows.{Course, Flow, Goes, Told, each_from, flow_after, flows_after, nothing_yet, one_told, passes, reaches, told_of, ways_to, with_if}
-use Rattle.relay_core.specs.Moves.{FrameGoes, Moved, tells}
+use Rattle.relay_core.specs.Moves.{IsTried, Moved, tells}
 use Rattle.relay_core.specs.RelayRuns.{HasClosed, Hearing, HoldsSoFar, IsOpenAt, IsRun, RelayKept, RelayRun, Sending, Tape, WasHeard, WasSent}
 use Rattle.relay_core.specs.Scans.{consumed}
 use Rattle.relay_core.specs.Waitings.{WaitingState, WaitsAt, waits}
@@ -99,9 +100,9 @@ hears_at rules packet answer run index k size own scanners held h flow tape r he
       let h_is : consumed size held ≡ h = same_some (sym (set_there scanners index (consumed size held) within) ∙ subst (λ (j : ℕ). slice_get (set scanners index (consumed size held)) j ≡ Some h) same now) in
       let own_is : b.old ≡ own = same_some (sym b.open_is.link_is ∙ subst (λ (j : ℕ). slice_get run.course.state.links j ≡ Some own) (sym same) here) in
       let heard_is : flow.heard ≡ b.first.heard ++ first_packet held ∷ [] =
-          ap (λ (f : Flow). f.heard) b.flow_is
-          ∙ (if_true (b.old.number == own.number) packet b.first.heard (is_eq b.old.number own.number (ap (λ (l : LinkState). l.number) own_is))
-          ∙ ap (λ (p : Packet). b.first.heard ++ p ∷ []) is) in
+      ap (λ (f : Flow). f.heard) b.flow_is
+      ∙ (if_true (b.old.number == own.number) packet b.first.heard (is_eq b.old.number own.number (ap (λ (l : LinkState). l.number) own_is))
+      ∙ ap (λ (p : Packet). b.first.heard ++ p ∷ []) is) in
       subst (λ (x : Held). Hearing rules flow tape x) h_is (hearing_frame rules b.first flow tape held size next (ap (λ (f : Flow). f.port) b.flow_is) heard_is (hearing held there))
   | inr apart ↦
       let there = sym (set_elsewhere scanners index k (consumed size held) apart) ∙ now in
@@ -142,8 +143,7 @@ closed_flow : (rules : Rules) (packet : Packet) (answer : Admit) (run : RelayRun
 closed_flow rules packet answer run index n own flow here closed there =
     let links = run.course.state.links in
     let e = each_got (flow_after rules packet answer links own.number) 1 n run.course.flows flow there in
-    let other : 1 + n ≡ own.number → ⊥ = λ s. closed index own here (omega (arith, s)) in
-    (
+    let other : 1 + n ≡ own.number → ⊥ = λ s. closed index own here (omega (arith, s)) in (
       e.0,
       e.1,
       ap (λ (f : Flow). f.port) e.2,
@@ -153,8 +153,8 @@ closed_flow rules packet answer run index n own flow here closed there =
 
 -- ---- the run goes on
 
-pub frame_moves : (rules : Rules) (start : Kept) (run : RelayRun) (index size : ℕ) (links later : LinksKept) (scanners : List Held) (queues waiting : List WaitingState) (told telling : Option (List Told)) (held : Held) → index < length links.links → slice_get scanners index ≡ Some held → IsNextSpan held (Frame size) → ((state : RelayState) → Represents links state → FrameGoes rules index (first_packet held) state later queues waiting told telling) → IsRun rules start run → HoldsSoFar rules run (record { links = links; scanners = scanners; queues = queues }) → Moved rules start run (record { links = later; scanners = set scanners index (consumed size held); queues = waiting }) told telling
-frame_moves rules start run index size links later scanners queues waiting told telling held within holds next does is h =
+pub frame_moves : (rules : Rules) (start : Kept) (run : RelayRun) (index size bits : ℕ) (links later : LinksKept) (scanners : List Held) (queues waiting : List WaitingState) (told telling : Option (List Told)) (held : Held) → index < length links.links → slice_get scanners index ≡ Some held → IsNextSpan held (Frame size) → ((state : RelayState) → Represents links state → IsTried rules index bits (first_packet held) state later told telling) → WaitsAt (length queues) (has_link bits) (encoding (first_packet held)) queues waiting → IsRun rules start run → HoldsSoFar rules run (record { links = links; scanners = scanners; queues = queues }) → Moved rules start run (record { links = later; scanners = set scanners index (consumed size held); queues = waiting }) told telling
+frame_moves rules start run index size bits links later scanners queues waiting told telling held within holds next does pushes is h =
     let state = run.course.state in
     let packet = first_packet held in
     let g = does state h.links in
@@ -182,7 +182,7 @@ frame_moves rules start run index size links later scanners queues waiting told 
             hears_at rules packet g.answer run index k size own scanners held x flow tape rises here holds refl next b (λ before there. h.hearing k b.old b.first tape before b.open_is there) at;
         sending = λ k link flow tape w o at.
             let b = was_open rules packet g.answer run own g.after g.step.index k new link flow tape rises links_are refl o in
-            sends_at rules packet g.answer run index k own g.goes queues waiting w flow tape rises here g.ways g.waits b (λ before there. h.sending k b.old b.first tape before b.open_is there) at;
+            sends_at rules packet g.answer run index k own (has_link bits) queues waiting w flow tape rises here g.ways pushes b (λ before there. h.sending k b.old b.first tape before b.open_is there) at;
         heard = λ n flow tape closed flow_is tape_is.
             let was = closed_before rules packet g.answer run own g.after g.step.index n new links_are refl closed in
             let f = closed_flow rules packet g.answer run index n own flow here was flow_is in

@@ -1,4 +1,4 @@
--- A frame that was tried, waits where it goes, and was told.
+-- A frame that was tried, and was told.
 use Rattle.std.proofs.Common.{◌≡◌, ◌∙◌, ◌<◌, ℕ, zero, suc, ◌+◌, ◌&&◌, Bool, List, [], ◌∷◌, length, map, filter, slice_get, Option, Some, refl, sym, ap, subst, arith}
 use Rattle.mav_frame.specs.Packet.{Packet}
 use Rattle.mav_frame.specs.Encoding.{encoding}
@@ -13,7 +13,7 @@ use Rattle.relay_rules.specs.Kept.{LinksKept, Represents, head_of, names_of}
 use Rattle.relay_rules.specs.States.{LinkState, RelayState, goes_to, heard, link_at}
 use Rattle.relay_rules.specs.declared.links.OpenLink.{OpenLink}
 use Rattle.relay_core.specs.Flows.{Told, one_told, passes}
-use Rattle.relay_core.specs.Moves.{FrameGoes, numbers_of, tells}
+use Rattle.relay_core.specs.Moves.{IsTried, numbers_of, tells}
 use Rattle.relay_core.specs.Waitings.{WaitingState, WaitsAt}
 use Rattle.relay_core.proofs.FrameSteps.{as_many, there_is}
 use Rattle.relay_core.proofs.Places.{nothing_there, same_some}
@@ -24,8 +24,8 @@ mapped_at [] k link e = absurd (nothing_there k e)
 mapped_at (l ∷ links) zero link e = ap (λ (o : LinkState). Some (head_of o)) (same_some e)
 mapped_at (l ∷ links) (suc k) link e = mapped_at links k link e
 
-pub frame_goes : (rules : Rules) (index bits : ℕ) (packet : Packet) (answer : Admit) (view room later : LinksKept) (queues waiting : List WaitingState) (told telling : Option (List Told)) → index < length view.links → HasRoom view.kept room.kept → room.given ≡ view.given → room.links ≡ view.links → room.words ≡ view.words → later.links ≡ room.links → ((state : RelayState) → Represents room state → IsVerdictBy rules.key (has_port rules.plain (link_at state.links index).port) room.kept later.kept packet answer) → ((state : RelayState) → Represents room state → (k : ℕ) → k < length state.links → has_link bits k ≡ (is_admitted answer && goes_to rules packet (link_at state.links index) (link_at state.links k))) → ((state : RelayState) → Represents room state → Represents later (heard index (is_admitted answer) packet.from later.kept state)) → WaitsAt (length queues) (has_link bits) (encoding packet) queues waiting → ((link : OpenLink) → slice_get later.links index ≡ Some link → telling ≡ tells told (one_told link.number packet answer (numbers_of (has_link bits) 0 later.links))) → (state : RelayState) → Represents view state → FrameGoes rules index packet state later queues waiting told telling
-frame_goes rules index bits packet answer view room later queues waiting told telling within made given links words same verdict ways hears waits tell state r =
+pub frame_tried : (rules : Rules) (index bits : ℕ) (packet : Packet) (answer : Admit) (view room later : LinksKept) (told telling : Option (List Told)) → index < length view.links → HasRoom view.kept room.kept → room.given ≡ view.given → room.links ≡ view.links → room.words ≡ view.words → later.links ≡ room.links → ((state : RelayState) → Represents room state → IsVerdictBy rules.key (has_port rules.plain (link_at state.links index).port) room.kept later.kept packet answer) → ((state : RelayState) → Represents room state → (k : ℕ) → k < length state.links → has_link bits k ≡ (is_admitted answer && goes_to rules packet (link_at state.links index) (link_at state.links k))) → ((state : RelayState) → Represents room state → Represents later (heard index (is_admitted answer) packet.from later.kept state)) → ((link : OpenLink) → slice_get later.links index ≡ Some link → telling ≡ tells told (one_told link.number packet answer (numbers_of (has_link bits) 0 later.links))) → (state : RelayState) → Represents view state → IsTried rules index bits packet state later told telling
+frame_tried rules index bits packet answer view room later told telling within made given links words same verdict ways hears tell state r =
     let now : RelayState = record { given = state.given; links = state.links; kept = room.kept } in
     let stands : Represents room now = record {
       given = given ∙ r.given;
@@ -42,7 +42,6 @@ frame_goes rules index bits packet answer view room later queues waiting told te
     record {
       answer = answer;
       after = heard index (is_admitted answer) packet.from later.kept state;
-      goes = has_link bits;
       step = record {
         index = index;
         link = own;
@@ -55,6 +54,5 @@ frame_goes rules index bits packet answer view room later queues waiting told te
       };
       links_are = hears now stands;
       ways = ways now stands;
-      waits = waits;
       tells_it = tell (head_of own) head ∙ ap (λ (to : List ℕ). tells told (one_told own.number packet answer to)) (ap (numbers_of (has_link bits) 0) heads ∙ passing);
     }

@@ -7,5 +7,6 @@ mod Numbers
 mod Passing
 mod Places
 mod Results
+mod Stopping
 mod TapeSteps
 mod Telling

@@ -10,7 +10,7 @@ use Rattle.relay_rules.specs.Kept.{LinksKept, Represents}
 use Rattle.relay_rules.specs.States.{LinkState, RelayState, link_at}
 use Rattle.relay_core.specs.Calls.{HasHeard, RunIs}
 use Rattle.relay_core.specs.Flows.{Flow, Told, no_flow}
-use Rattle.relay_core.specs.Moves.{Moved, Moves, OthersKept, gave, gave_run, held_at, no_tape, tape_at, tape_place, tells, took, took_run, with_tape}
+use Rattle.relay_core.specs.Moves.{Moved, Moves, OthersKept, Stopped, Stops, gave, gave_run, held_at, no_tape, tape_at, tape_place, tells, took, took_run, with_tape}
 use Rattle.relay_core.specs.RelayRuns.{HasClosed, Hearing, Holds, HoldsSoFar, IsOpenAt, IsResting, IsRun, RelayKept, RelayRun, Sending, Tape, WasHeard, WasSent}
 use Rattle.relay_core.specs.Scans.{FeedsAt}
 use Rattle.relay_core.specs.Waitings.{WaitingState, wrote}
@@ -24,8 +24,7 @@ own_tape : (run : RelayRun) (index : ℕ) (own link : LinkState) (flow : Flow) (
 own_tape run index own link flow tape new here at within o =
     let link_is : link ≡ own = same_some (sym o.link_is ∙ here) in
     let place : link.number - 1 ≡ tape_place run index = ap (λ (l : LinkState). l.number - 1) (link_is ∙ sym at) in
-    let inside : tape_place run index < length run.tapes = subst (λ (l : LinkState). l.number - 1 < length run.tapes) (sym at) within in
-    (
+    let inside : tape_place run index < length run.tapes = subst (λ (l : LinkState). l.number - 1 < length run.tapes) (sym at) within in (
       same_some (sym (set_there run.tapes (tape_place run index) new inside) ∙ subst (λ (p : ℕ). slice_get (set run.tapes (tape_place run index) new) p ≡ Some tape) place o.tape_is),
       record {
         link_is = o.link_is;
@@ -200,3 +199,14 @@ hears_run rules start run index count bytes old new fed told telling within same
       course = m.course;
       tells_it = m.tells_it;
     }
+
+-- a link gave bytes, and there was no memory before all that they end was heard
+pub hears_in_part : (rules : Rules) (start : Kept) (run : RelayRun) (index count : ℕ) (bytes : List ℕ) (old : RelayKept) (fed : List Held) (told telling : Option (List Told)) → index < length old.links.links → length old.scanners ≡ length old.links.links → length bytes ≤ 65536 → ((held : Held) → slice_get old.scanners index ≡ Some held → FeedsAt index held bytes count old.scanners fed) → Stops rules (record { links = old.links; scanners = fed; queues = old.queues }) told telling → IsRun rules start run → Holds rules run old → Stopped rules start (gave_run index bytes run) told telling
+hears_in_part rules start run index count bytes old fed told telling within as_scanners short feeds stops is holds =
+    let held = held_at old.scanners index in
+    let there = slice_get-get_or old.scanners index (nothing_held [] false) (omega (arith, within, as_scanners)) in
+    let f = feeds held there in
+    let rest = holds.resting index held there in
+    let all = all_fit bytes count (length held.bytes) short rest.short f.feeds.count in
+    stops start (gave_run index bytes run) is
+    (subst (λ (l : List Held). HoldsSoFar rules (gave_run index bytes run) (record { links = old.links; scanners = l; queues = old.queues })) (sym f.set) (gives_run rules start run index count old held f.now bytes within there f.feeds all is holds.so_far))

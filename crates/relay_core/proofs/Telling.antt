@@ -21,7 +21,7 @@ no_more : (xs : List Told) → xs ≡ xs ++ []
 no_more [] = refl
 no_more (x ∷ xs) = ap (λ (l : List Told). x ∷ l) (no_more xs)
 
-tells_none : (told : Option (List Told)) → told ≡ tells told []
+pub tells_none : (told : Option (List Told)) → told ≡ tells told []
 tells_none None = refl
 tells_none (Some told) = ap Some (no_more told)
 
@@ -39,7 +39,7 @@ moves_none rules view told start run is h = record {
   tells_it = tells_none told;
 }
 
-heard_more : (a b : List Event) → AreHeard a → AreHeard b → AreHeard (a ++ b)
+pub heard_more : (a b : List Event) → AreHeard a → AreHeard b → AreHeard (a ++ b)
 heard_more [] b f g = g
 heard_more (hears number packet answer ∷ a) b f g = heard_more a b f g
 heard_more (opens number port ∷ a) b f g = f

@@ -7,7 +7,7 @@ use Rattle.relay_rules.specs.States.{LinkState}
 use Rattle.relay_rules.specs.Steps.{Event}
 use Rattle.relay_core.specs.Flows.{Flow, Told, nothing_yet}
 use Rattle.relay_core.specs.RelayRuns.{Holds, IsOpenAt, IsRun, RelayKept, RelayRun, Tape, WasSent}
-use Rattle.relay_core.specs.Moves.{AreHeard, closed_run, gave_run, opened_run, tells, took_run}
+use Rattle.relay_core.specs.Moves.{AreHeard, Stopped, closed_run, gave_run, opened_run, tells, took_run}
 use Rattle.relay_core.specs.Waitings.{WaitingState, counted}
 
 -- before any event
@@ -53,6 +53,11 @@ pub record HasHeard (rules : Rules) (start : Kept) (index : ℕ) (bytes : List �
 abbrev pub Hears : Rules → ℕ → List ℕ → RelayKept → RelayKept → Option (List Told) → Option (List Told) → Type 0
 Hears rules index bytes old new told telling =
     (start : Kept) (run : RelayRun) → IsRun rules start run → Holds rules run old → HasHeard rules start index bytes run new told telling
+
+-- there was no memory for it all: what holds in part, and what was told so far
+abbrev pub HearsInPart : Rules → ℕ → List ℕ → RelayKept → Option (List Told) → Option (List Told) → Type 0
+HearsInPart rules index bytes old told telling =
+    (start : Kept) (run : RelayRun) → IsRun rules start run → Holds rules run old → Stopped rules start (gave_run index bytes run) told telling
 
 -- so many of the bytes that are next are on its tape
 abbrev pub Takes : ℕ → ℕ → RelayKept → RelayKept → Type 0

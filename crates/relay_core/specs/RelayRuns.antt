@@ -2,7 +2,7 @@
 use Rattle.std.specs.Prelude.{ℕ, suc, ◌≡◌, ◌+◌, ◌-◌, ◌<◌, ◌==◌, Bool, false, if◌then◌else◌, List, [], ◌∷◌, ◌++◌, length, map, slice_get, Some}
 use Rattle.mav_frame.specs.Packet.{Packet}
 use Rattle.mav_frame.specs.Encoding.{encoding}
-use Rattle.mav_frame.specs.Parse.{Incremental, IsIncomplete}
+use Rattle.mav_frame.specs.Parse.{BeginsIncremental, Incremental, IsIncomplete}
 use Rattle.mav_frame.specs.declared.events.Event.{Event as FrameEvent}
 use Rattle.mav_profile.specs.Messages.{extras_of}
 use Rattle.mav_sign.specs.Endpoints.{frames_of}
@@ -92,6 +92,18 @@ pub record HoldsSoFar (rules : Rules) (run : RelayRun) (view : RelayKept) : Type
   pub sending : (index : ℕ) (link : LinkState) (flow : Flow) (tape : Tape) (waiting : WaitingState) → IsOpenAt run index link flow tape → slice_get view.queues index ≡ Some waiting → Sending flow tape waiting
   pub heard : (n : ℕ) (flow : Flow) (tape : Tape) → HasClosed run n → slice_get run.course.flows n ≡ Some flow → slice_get run.tapes n ≡ Some tape → WasHeard rules flow tape
   pub sent : (n : ℕ) (flow : Flow) (tape : Tape) → HasClosed run n → slice_get run.course.flows n ≡ Some flow → slice_get run.tapes n ≡ Some tape → (dropped : ℕ) × WasSent dropped flow tape
+
+-- the frames heard of a link are those of a prefix of the parse of what it gave
+pub record WasHeardInPart (rules : Rules) (flow : Flow) (tape : Tape) : Type 0 where
+  pub found : List FrameEvent
+  pub left : List ℕ
+  pub parsed : BeginsIncremental (extras_of rules.known) (has_port rules.plain flow.port) found left tape.given
+  pub heard : frames_of found ≡ flow.heard
+
+-- what holds of each link, open or closed, of a run that stopped where there was no memory
+pub record HoldsInPart (rules : Rules) (run : RelayRun) : Type 0 where
+  pub heard : (n : ℕ) (flow : Flow) (tape : Tape) → slice_get run.course.flows n ≡ Some flow → slice_get run.tapes n ≡ Some tape → WasHeardInPart rules flow tape
+  pub sent : (n : ℕ) (flow : Flow) (tape : Tape) → slice_get run.course.flows n ≡ Some flow → slice_get run.tapes n ≡ Some tape → (dropped : ℕ) × WasSent dropped flow tape
 
 -- and between two calls: all frames of what the links gave were heard
 pub record Holds (rules : Rules) (run : RelayRun) (view : RelayKept) : Type 0 where

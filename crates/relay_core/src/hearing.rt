@@ -1,14 +1,13 @@
 // What a frame does that comes in at a link.
-ghost use Rattle.std.specs.Prelude.{◌≡◌, ◌+◌, ◌<◌, ◌≤◌, length, take, slice_get, Some, OnOk, ℕ};
+ghost use Rattle.std.specs.Prelude.{◌≡◌, ◌+◌, ◌<◌, ◌≤◌, length, take, slice_get, Some, IfOk, OnErr, ℕ};
 ghost use Rattle.link_table.specs.OpenLinks.{has_link};
 ghost use Rattle.relay_rules.specs.Kept.{Represents};
 ghost use Rattle.relay_rules.specs.States.{RelayState};
 ghost use Rattle.relay_rules.specs.declared.links.OpenLink.{OpenLink};
 ghost use Rattle.relay_core.specs.Flows.{one_told};
-ghost use Rattle.relay_core.specs.Moves.{FrameGoes, numbers_of, tells};
+ghost use Rattle.relay_core.specs.Moves.{IsTried, numbers_of, tells};
 
 use crate::NoMemory;
-use crate::queues::Queues;
 use crate::watcher::Watcher;
 use link_table::LinkSet;
 use mav_frame::RawFrame;
@@ -51,26 +50,25 @@ fn tell<W: Watcher>(
     watcher.tell(number, frame, heard.admit, &numbers[..count]);
 }
 
-/// Tries a frame that came in at the open link with that index, has it wait at the links that it goes to, and tells the
-/// watcher of it.
-pub(crate) fn hear_frame<W: Watcher>(
+/// Tries a frame that came in at the open link with that index, and tells the watcher of it. Returns where it goes.
+pub(crate) fn try_frame<W: Watcher>(
     links: &mut Links,
-    queues: &mut Queues,
     rules: &RouterRules<'_>,
     index: usize,
     frame: &RawFrame<'_>,
     watcher: &mut W,
-) -> Result<(), NoMemory>
+) -> Result<LinkSet, NoMemory>
     requires within { index < length links.old.links }
-    ensures goes { OnOk result ((state : RelayState) → Represents links.old state
-        → FrameGoes rules.now index frame.now state links.new queues.old queues.new (W.told watcher.old) (W.told watcher.new)) }
+    ensures tries { IfOk result (λ ways. (state : RelayState) → Represents links.old state
+        → IsTried rules.now index ways.bits frame.now state links.new (W.told watcher.old) (W.told watcher.new)) }
+    ensures unchanged { OnErr result (links.new ≡ links.old) }
+    ensures untold { OnErr result (W.told watcher.new ≡ W.told watcher.old) }
     ensures links { links.new.links ≡ links.old.links }
     ensures given { links.new.given ≡ links.old.given }
-    ensures count { length queues.new ≡ length queues.old }
 {
     let judgement = judge(rules, frame);
     links.make_room()?;
     let heard = links.hear(rules, index, frame, judgement);
     tell(links, index, frame, heard, watcher);
-    queues.pass_on(heard.ways, frame.bytes())
+    Ok(heard.ways)
 }

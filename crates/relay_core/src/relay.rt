@@ -2,7 +2,7 @@
 ghost use Rattle.std.specs.Prelude.{◌≡◌, ◌+◌, ◌<◌, ◌≤◌, ◌^◌, ◌++◌, ◌∷◌, [], length, slice_get, Some, IfOk, OnOk, OnErr, IsTrue};
 ghost use Rattle.std.specs.List.{remove};
 ghost use Rattle.relay_queue.specs.Queues.{next_bytes};
-ghost use Rattle.relay_core.specs.Calls.{Closes, Hears, IsNew, Opens, Takes};
+ghost use Rattle.relay_core.specs.Calls.{Closes, Hears, HearsInPart, IsNew, Opens, Takes};
 ghost use Rattle.relay_core.specs.Waitings.{WaitingState, lost};
 
 use crate::NoMemory;
@@ -116,7 +116,7 @@ impl Relay {
     }
 
     /// The open link with that index gave these bytes: each frame that they end is tried, waits where it goes, and is told
-    /// to the watcher.
+    /// to the watcher. Without memory what waits is of no use any more, and what was told is true.
     pub fn hear<W: Watcher>(
         &mut self,
         rules: &RouterRules<'_>,
@@ -127,6 +127,7 @@ impl Relay {
         requires within { index < length self.old.links.links }
         requires short { length bytes.now ≤ 65536 }
         ensures hears { OnOk result (Hears rules.now index bytes.now self.old self.new (W.told watcher.old) (W.told watcher.new)) }
+        ensures stops { OnErr result (HearsInPart rules.now index bytes.now self.old (W.told watcher.old) (W.told watcher.new)) }
         ensures links { self.new.links.links ≡ self.old.links.links }
         ensures given { self.new.links.given ≡ self.old.links.given }
     {

@@ -1,11 +1,11 @@
 // The stream of a link, frame by frame.
-ghost use Rattle.std.specs.Prelude.{◌≡◌, ◌<◌, length, OnOk, IfOk, true, false};
+ghost use Rattle.std.specs.Prelude.{◌≡◌, ◌<◌, length, OnOk, OnErr, IfOk, true, false};
 ghost use Rattle.mav_stream.specs.Held.{Held};
-ghost use Rattle.relay_core.specs.Moves.{Moves, OthersKept, held_at};
+ghost use Rattle.relay_core.specs.Moves.{Moves, OthersKept, Stops, held_at};
 ghost use Rattle.relay_core.specs.RelayRuns.{IsResting};
 
 use crate::NoMemory;
-use crate::hearing::hear_frame;
+use crate::hearing::try_frame;
 use crate::queues::Queues;
 use crate::scanners::Scanners;
 use crate::watcher::Watcher;
@@ -24,9 +24,12 @@ fn hear_next<W: Watcher>(
 ) -> Result<bool, NoMemory>
     requires within { index < length links.old.links }
     requires scanners { length scanners.old ≡ length links.old.links }
+    requires queues { length queues.old ≡ length links.old.links }
     ensures moves { OnOk result (Moves rules.now
         (record { links = links.old; scanners = scanners.old; queues = queues.old })
         (record { links = links.new; scanners = scanners.new; queues = queues.new })
+        (W.told watcher.old) (W.told watcher.new)) }
+    ensures stops { OnErr result (Stops rules.now (record { links = links.old; scanners = scanners.old; queues = queues.old })
         (W.told watcher.old) (W.told watcher.new)) }
     ensures links { links.new.links ≡ links.old.links }
     ensures given { links.new.given ≡ links.old.given }
@@ -43,7 +46,8 @@ fn hear_next<W: Watcher>(
         }
         NextSpan::Frame(size) => {
             let frame = scanners.raw_frame(index, size);
-            hear_frame(links, queues, rules, index, &frame, watcher)?;
+            let ways = try_frame(links, rules, index, &frame, watcher)?;
+            queues.pass_on(ways, frame.bytes())?;
             scanners.consume(index, size);
             Ok(true)
         }
@@ -61,9 +65,12 @@ pub(crate) fn hear_all<W: Watcher>(
 ) -> Result<(), NoMemory>
     requires within { index < length links.old.links }
     requires scanners { length scanners.old ≡ length links.old.links }
+    requires queues { length queues.old ≡ length links.old.links }
     ensures moves { OnOk result (Moves rules.now
         (record { links = links.old; scanners = scanners.old; queues = queues.old })
         (record { links = links.new; scanners = scanners.new; queues = queues.new })
+        (W.told watcher.old) (W.told watcher.new)) }
+    ensures stops { OnErr result (Stops rules.now (record { links = links.old; scanners = scanners.old; queues = queues.old })
         (W.told watcher.old) (W.told watcher.new)) }
     ensures links { links.new.links ≡ links.old.links }
     ensures given { links.new.given ≡ links.old.given }

@@ -125,24 +125,24 @@ delivers_written all dropped whole (f ∷ fs) count l =
       kept = l;
     })
     (λ some. by_cases (λ (s : QueueState). Delivers all dropped bytes s) (nat_lt count (length f)) (queue_of (drop count f) fs) (written (count - length f) fs)
-      (λ part.
-          let less = is_below count (length f) part in
-          let left = length-drop count f in
-          let is_begun : nat_lt 0 (length (drop count f)) ≡ true = is_less 0 (length (drop count f)) (omega (arith, less, left)) in
-          record {
-            whole = whole;
-            begun = f ∷ [];
-            part = take count f;
-            bytes = ap (λ (k : List ℕ). concat whole ++ k) (take-append-le count f (concat fs) (omega (arith, less)));
-            rest = append-nil f ∙ sym (take-append-drop count f);
-            one = sym (ap (λ (b : Bool). if b then 1 else 0) is_begun);
-            kept = l;
-          })
-      (λ past.
-          let more = is_above count (length f) past in
-          let next = delivers_written all dropped (whole ++ f ∷ []) fs (count - length f) (subst (λ (k : List (List ℕ)). LeavesOut dropped all k) (sym (append_assoc whole (f ∷ []) fs)) l) in
-          let same : concat (whole ++ f ∷ []) ++ take (count - length f) (concat fs) ≡ bytes = ap (λ (k : List ℕ). k ++ take (count - length f) (concat fs)) (concat_more whole f) ∙ (append_assoc (concat whole) f (take (count - length f) (concat fs)) ∙ ap (λ (k : List ℕ). concat whole ++ k) (sym (take_past count f (concat fs) more))) in
-          subst (λ (b : List ℕ). Delivers all dropped b (written (count - length f) fs)) same next))
+    (λ part.
+    let less = is_below count (length f) part in
+    let left = length-drop count f in
+    let is_begun : nat_lt 0 (length (drop count f)) ≡ true = is_less 0 (length (drop count f)) (omega (arith, less, left)) in
+    record {
+      whole = whole;
+      begun = f ∷ [];
+      part = take count f;
+      bytes = ap (λ (k : List ℕ). concat whole ++ k) (take-append-le count f (concat fs) (omega (arith, less)));
+      rest = append-nil f ∙ sym (take-append-drop count f);
+      one = sym (ap (λ (b : Bool). if b then 1 else 0) is_begun);
+      kept = l;
+    })
+    (λ past.
+    let more = is_above count (length f) past in
+    let next = delivers_written all dropped (whole ++ f ∷ []) fs (count - length f) (subst (λ (k : List (List ℕ)). LeavesOut dropped all k) (sym (append_assoc whole (f ∷ []) fs)) l) in
+    let same : concat (whole ++ f ∷ []) ++ take (count - length f) (concat fs) ≡ bytes = ap (λ (k : List ℕ). k ++ take (count - length f) (concat fs)) (concat_more whole f) ∙ (append_assoc (concat whole) f (take (count - length f) (concat fs)) ∙ ap (λ (k : List ℕ). concat whole ++ k) (sym (take_past count f (concat fs) more))) in
+    subst (λ (b : List ℕ). Delivers all dropped b (written (count - length f) fs)) same next))
 
 no_list : (xs ys : List ℕ) → [] ≡ xs ++ ys → xs ≡ []
 no_list [] ys e = refl
@@ -198,15 +198,15 @@ pub delivers_wrote : (all : List (List ℕ)) (dropped : ℕ) (bytes : List ℕ) 
 delivers_wrote all dropped bytes count queue d =
     by_cases (λ (s : QueueState). Delivers all dropped (bytes ++ take count (next_bytes queue)) s) (has_begun queue) (queue_of (drop count queue.begun) queue.waiting) (written count queue.waiting)
     (λ is. subst (λ (b : List ℕ). Delivers all dropped (bytes ++ take count b) (queue_of (drop count queue.begun) queue.waiting)) (next_begun queue is)
-      (elim (cases_Bool (nat_lt 0 (length (drop count queue.begun)))) [
-        | inl left ↦ wrote_part all dropped bytes count queue is left d
-        | inr left ↦ wrote_rest all dropped bytes count queue left d
-      ]))
+    (elim (cases_Bool (nat_lt 0 (length (drop count queue.begun)))) [
+      | inl left ↦ wrote_part all dropped bytes count queue is left d
+      | inr left ↦ wrote_rest all dropped bytes count queue left d
+    ]))
     (λ none.
-        let nothing = none_begun all dropped bytes queue d none in
-        let kept = subst (λ (k : List (List ℕ)). LeavesOut dropped all (d.whole ++ (k ++ queue.waiting))) nothing.0 d.kept in
-        let same : bytes ≡ concat d.whole = d.bytes ∙ (ap (λ (b : List ℕ). concat d.whole ++ b) nothing.1 ∙ append-nil (concat d.whole)) in
-        subst (λ (b : List ℕ). Delivers all dropped b (written count queue.waiting)) (λ i. sym same i ++ take count (next_waiting queue none i)) (delivers_written all dropped d.whole queue.waiting count kept))
+    let nothing = none_begun all dropped bytes queue d none in
+    let kept = subst (λ (k : List (List ℕ)). LeavesOut dropped all (d.whole ++ (k ++ queue.waiting))) nothing.0 d.kept in
+    let same : bytes ≡ concat d.whole = d.bytes ∙ (ap (λ (b : List ℕ). concat d.whole ++ b) nothing.1 ∙ append-nil (concat d.whole)) in
+    subst (λ (b : List ℕ). Delivers all dropped b (written count queue.waiting)) (λ i. sym same i ++ take count (next_waiting queue none i)) (delivers_written all dropped d.whole queue.waiting count kept))
 
 -- ---- a close
 

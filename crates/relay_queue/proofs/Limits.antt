@@ -29,8 +29,8 @@ written_fewer count (f ∷ fs) =
     by_cases (λ (s : QueueState). length s.begun + size_of s.waiting ≤ size_of (f ∷ fs)) (count == 0) (queue_of [] (f ∷ fs)) (if nat_lt count (length f) then queue_of (drop count f) fs else written (count - length f) fs)
     (λ none. omega arith)
     (λ some. by_cases (λ (s : QueueState). length s.begun + size_of s.waiting ≤ size_of (f ∷ fs)) (nat_lt count (length f)) (queue_of (drop count f) fs) (written (count - length f) fs)
-      (λ part. let rest = length-drop count f in omega (arith, rest))
-      (λ whole. let less = written_fewer (count - length f) fs in omega (arith, less)))
+    (λ part. let rest = length-drop count f in omega (arith, rest))
+    (λ whole. let less = written_fewer (count - length f) fs in omega (arith, less)))
 
 pub taken_fewer : (count : ℕ) (queue : QueueState) → length (taken count queue).begun + size_of (taken count queue).waiting ≤ length queue.begun + size_of queue.waiting
 taken_fewer count queue =

@@ -1,7 +1,9 @@
 use Rattle.std.proofs.Common.{◌≡◌, ◌∙◌, refl}
-use Rattle.relay_core.specs.Moves.{Moves}
+use Rattle.relay_core.specs.Moves.{Moves, Stops}
 use Rattle.relay_core.specs.RelayRuns.{RelayKept}
 use Rattle.relay_core.proofs.Fewer.{others_none, others_on}
+use Rattle.relay_core.proofs.Results.{on_err}
+use Rattle.relay_core.proofs.Stopping.{stops_on}
 use Rattle.relay_core.proofs.Telling.{moves_none, moves_on}
 use Rattle.relay_core.proofs.streams.hear_all.Goals as goal
 
@@ -32,3 +34,13 @@ returns-clause-moves g c =
     let here : RelayKept = record { links = c.loop.links; scanners = c.loop.scanners; queues = c.loop.queues } in
     let next : RelayKept = record { links = c.hear_next.new.links; scanners = c.hear_next.new.scanners; queues = c.hear_next.new.queues } in
     moves_on rules first here next (g.W.Watcher.told c.args.watcher.now) (g.W.Watcher.told c.loop.watcher) (g.W.Watcher.told c.hear_next.new.watcher) c.loop.invariant.0 c.in_ok-hear_next.ensures.moves
+
+pub returns-in_err-hear_next-clause-stops : goal.returns-in_err-hear_next-clause-stops
+returns-in_err-hear_next-clause-stops g c =
+    let rules = c.args.rules.now in
+    let first : RelayKept = record { links = c.args.links.now; scanners = c.args.scanners.now; queues = c.args.queues.now } in
+    let here : RelayKept = record { links = c.loop.links; scanners = c.loop.scanners; queues = c.loop.queues } in
+    let told = g.W.Watcher.told c.args.watcher.now in
+    let telling = g.W.Watcher.told c.hear_next.new.watcher in
+    on_err c.from_residual.result (Stops rules first told telling)
+    (stops_on rules first here told (g.W.Watcher.told c.loop.watcher) telling c.loop.invariant.0 c.in_err-hear_next.ensures.stops)

@@ -1,13 +1,18 @@
-use Rattle.std.proofs.Common.{◌≡◌, ◌∙◌, ◌<◌, ◌≤◌, List, Option, length, arith, ap, subst, sym}
+use Rattle.std.proofs.Common.{◌≡◌, ◌∙◌, ◌<◌, ◌≤◌, List, ℕ, length, arith, ap, subst, sym}
 use Rattle.mav_frame.specs.Packet.{Packet}
+use Rattle.mav_frame.specs.Encoding.{encoding}
 use Rattle.mav_stream.specs.Held.{Held}
+use Rattle.link_table.specs.OpenLinks.{has_link}
 use Rattle.relay_rules.specs.Kept.{Represents}
 use Rattle.relay_rules.specs.States.{RelayState}
-use Rattle.relay_core.specs.Flows.{Told}
-use Rattle.relay_core.specs.Moves.{FrameGoes, Moved, held_at}
+use Rattle.relay_core.specs.RelayRuns.{RelayKept}
+use Rattle.relay_core.specs.Waitings.{WaitsAt}
+use Rattle.relay_core.specs.Moves.{IsTried, Moved, Stops, held_at}
 use Rattle.relay_core.proofs.Fewer.{fewer_held, held_there, others_kept}
 use Rattle.relay_core.proofs.FrameSteps.{frame_moves, skip_moves}
 use Rattle.relay_core.proofs.Halves.{needs_rest}
+use Rattle.relay_core.proofs.Results.{on_err}
+use Rattle.relay_core.proofs.Stopping.{stops_before, stops_waiting}
 use Rattle.relay_core.proofs.Telling.{moves_none}
 use Rattle.relay_core.proofs.streams.hear_next.Goals as goal
 
@@ -48,32 +53,60 @@ returns-in-Skipped-clause-fewer g c = λ e.
     let next = c.in-Skipped.ensures held there in
     fewer_held scanners c.consume.new.self index c.in-Skipped.count within (c.consume.ensures.held held there) next.some next.within
 
-pub returns-in_ok-hear_frame-in-Frame-clause-moves : goal.returns-in_ok-hear_frame-in-Frame-clause-moves
-returns-in_ok-hear_frame-in-Frame-clause-moves g c = λ start run is h.
+pub returns-in_ok-pass_on-in-Frame-clause-moves : goal.returns-in_ok-pass_on-in-Frame-clause-moves
+returns-in_ok-pass_on-in-Frame-clause-moves g c = λ start run is h.
     let scanners = c.args.scanners.now in
     let index = c.args.index in
     let held = held_at scanners index in
     let rules = c.args.rules.now in
     let links = c.args.links.now in
     let queues = c.args.queues.now in
-    let later = c.hear_frame.new.links in
-    let waiting = c.hear_frame.new.queues in
+    let later = c.try_frame.new.links in
+    let waiting = c.pass_on.new.self in
+    let bits = c.in_ok-ways-in-Frame.ways.bits in
     let told = g.W.Watcher.told c.args.watcher.now in
-    let telling = g.W.Watcher.told c.hear_frame.new.watcher in
+    let telling = g.W.Watcher.told c.try_frame.new.watcher in
     let there = held_there scanners index (omega (arith, c.requires.within, c.requires.scanners)) in
-    let goes = subst (λ (p : Packet). (state : RelayState) → Represents links state → FrameGoes rules index p state later queues waiting told telling) (c.raw_frame-frame.ensures held there) c.in_ok-hear_frame-in-Frame.ensures.goes in
+    let packet = c.raw_frame-frame.ensures held there in
+    let tried = subst (λ (p : Packet). (state : RelayState) → Represents links state → IsTried rules index bits p state later told telling) packet c.in_ok-ways-in-Frame.ensures.tries in
+    let waits = subst (λ (b : List ℕ). WaitsAt (length queues) (has_link bits) b queues waiting) (c.bytes.ensures.bytes ∙ ap encoding packet) c.in_ok-pass_on-in-Frame.ensures.queues in
     subst (λ (l : List Held). Moved rules start run (record { links = later; scanners = l; queues = waiting }) told telling) (sym (c.consume-in-Frame.ensures.held held there))
-    (frame_moves rules start run index c.in-Frame.size links later scanners queues waiting told telling held c.requires.within there (c.in-Frame.ensures held there) goes is h)
+    (frame_moves rules start run index c.in-Frame.size bits links later scanners queues waiting told telling held c.requires.within there (c.in-Frame.ensures held there) tried waits is h)
 
-pub returns-in_ok-hear_frame-in-Frame-clause-others : goal.returns-in_ok-hear_frame-in-Frame-clause-others
-returns-in_ok-hear_frame-in-Frame-clause-others g c =
+pub returns-in_err-ways-in-Frame-clause-stops : goal.returns-in_err-ways-in-Frame-clause-stops
+returns-in_err-ways-in-Frame-clause-stops g c =
+    let view : RelayKept = record { links = c.args.links.now; scanners = c.args.scanners.now; queues = c.args.queues.now } in
+    let told = g.W.Watcher.told c.args.watcher.now in
+    let telling = g.W.Watcher.told c.try_frame.new.watcher in
+    on_err c.from_residual.result (Stops c.args.rules.now view told telling)
+    (stops_before c.args.rules.now view told telling c.requires.scanners c.requires.queues c.in_err-ways-in-Frame.ensures.untold)
+
+pub returns-in_err-pass_on-in-Frame-clause-stops : goal.returns-in_err-pass_on-in-Frame-clause-stops
+returns-in_err-pass_on-in-Frame-clause-stops g c =
+    let scanners = c.args.scanners.now in
+    let index = c.args.index in
+    let held = held_at scanners index in
+    let rules = c.args.rules.now in
+    let links = c.args.links.now in
+    let queues = c.args.queues.now in
+    let later = c.try_frame.new.links in
+    let bits = c.in_ok-ways-in-Frame.ways.bits in
+    let told = g.W.Watcher.told c.args.watcher.now in
+    let telling = g.W.Watcher.told c.try_frame.new.watcher in
+    let there = held_there scanners index (omega (arith, c.requires.within, c.requires.scanners)) in
+    let tried = subst (λ (p : Packet). (state : RelayState) → Represents links state → IsTried rules index bits p state later told telling) (c.raw_frame-frame.ensures held there) c.in_ok-ways-in-Frame.ensures.tries in
+    on_err c.from_residual-in_err-pass_on-in-Frame.result (Stops rules (record { links = links; scanners = scanners; queues = queues }) told telling)
+    (stops_waiting rules index c.in-Frame.size bits links later scanners queues told telling held c.requires.within c.requires.scanners c.requires.queues c.in_ok-ways-in-Frame.ensures.links there (c.in-Frame.ensures held there) tried)
+
+pub returns-in_ok-pass_on-in-Frame-clause-others : goal.returns-in_ok-pass_on-in-Frame-clause-others
+returns-in_ok-pass_on-in-Frame-clause-others g c =
     let scanners = c.args.scanners.now in
     let index = c.args.index in
     let there = held_there scanners index (omega (arith, c.requires.within, c.requires.scanners)) in
     others_kept scanners c.consume-in-Frame.new.self index c.in-Frame.size c.consume-in-Frame.ensures.count (c.consume-in-Frame.ensures.held (held_at scanners index) there)
 
-pub returns-in_ok-hear_frame-in-Frame-clause-fewer : goal.returns-in_ok-hear_frame-in-Frame-clause-fewer
-returns-in_ok-hear_frame-in-Frame-clause-fewer g c = λ e.
+pub returns-in_ok-pass_on-in-Frame-clause-fewer : goal.returns-in_ok-pass_on-in-Frame-clause-fewer
+returns-in_ok-pass_on-in-Frame-clause-fewer g c = λ e.
     let scanners = c.args.scanners.now in
     let index = c.args.index in
     let held = held_at scanners index in
