@@ -1,29 +1,27 @@
 -- What each call leaves of a run.
-use Rattle.std.proofs.Common.{◌≡◌, ◌∙◌, ◌<◌, ◌≤◌, ◌⊎◌, inl, inr, ℕ, zero, suc, ◌+◌, ◌-◌, ◌&&◌, Bool, true, false, List, [], ◌∷◌, ◌++◌, length, map, get_or, set, take, slice_get, Option, Some, refl, sym, ap, subst, arith, length-append, length-set}
+use Rattle.std.proofs.Common.{◌≡◌, ◌∙◌, ◌<◌, ◌≤◌, ◌⊎◌, inl, inr, ℕ, suc, ◌+◌, ◌-◌, Bool, true, false, List, [], ◌∷◌, ◌++◌, length, get_or, slice_get, Some, refl, sym, ap, subst, arith, length-append}
 use Rattle.std.specs.List.{remove}
 use Rattle.std.proofs.lemmas.List.{append-nil}
 use Rattle.std.proofs.lemmas.Option.{slice_get_within, slice_get-get_or}
-use Rattle.mav_frame.specs.Parse.{IsIncomplete}
 use Rattle.mav_profile.specs.Messages.{extras_of}
 use Rattle.mav_sign.specs.Kept.{Kept, Represents as OfHistory}
 use Rattle.mav_stream.specs.Held.{Held, nothing_held}
 use Rattle.link_table.specs.Routing.{has_port}
 use Rattle.mav_router.specs.Journal.{Rules}
-use Rattle.relay_queue.specs.Queues.{next_bytes}
-use Rattle.relay_rules.specs.Kept.{LinksKept, Represents}
+use Rattle.relay_rules.specs.Kept.{Represents}
 use Rattle.relay_rules.specs.Laws.{nothing_opened}
 use Rattle.relay_rules.specs.States.{LinkState, RelayState, closed, link_at, opened, opened_link}
 use Rattle.relay_rules.specs.Steps.{closes, opens}
 use Rattle.relay_rules.proofs.Numbering.{got_less, got_more}
-use Rattle.relay_core.specs.Calls.{HasClosedWith, IsNew, RunIs, no_run}
+use Rattle.relay_core.specs.Calls.{HasClosedWith, IsNew, RunIs}
 use Rattle.relay_core.specs.Flows.{Flow, Goes, no_flow, nothing_yet}
-use Rattle.relay_core.specs.Moves.{closed_run, no_tape, opened_run, tape_at, tape_place, took, took_run}
-use Rattle.relay_core.specs.RelayRuns.{HasClosed, Hearing, Holds, HoldsSoFar, IsOpenAt, IsResting, IsRun, RelayKept, RelayRun, Sending, Tape, WasHeard, WasSent}
-use Rattle.relay_core.specs.Waitings.{WaitingState, counted, lost, nothing_waits, wrote}
+use Rattle.relay_core.specs.Moves.{closed_run, no_tape, opened_run}
+use Rattle.relay_core.specs.RelayRuns.{HasClosed, Hearing, Holds, IsOpenAt, IsResting, IsRun, RelayKept, RelayRun, Sending, Tape}
+use Rattle.relay_core.specs.Waitings.{WaitingState, lost, nothing_waits}
 use Rattle.relay_core.proofs.FrameSteps.{as_many, there_is}
-use Rattle.relay_core.proofs.Halves.{hearing_took, sending_new, sending_wrote, was_heard, was_sent}
-use Rattle.relay_core.proofs.Numbers.{Rising, one_more, one_place, run_rises}
-use Rattle.relay_core.proofs.Places.{is_same_or, less_place, more_first, more_last, nothing_there, same_some, set_elsewhere, set_there, still_there}
+use Rattle.relay_core.proofs.Halves.{sending_new, was_heard, was_sent}
+use Rattle.relay_core.proofs.Numbers.{Rising, one_more, run_rises}
+use Rattle.relay_core.proofs.Places.{is_same_or, less_place, more_first, more_last, nothing_there, same_some, still_there}
 
 -- ---- before any event
 

@@ -1,7 +1,7 @@
 -- Fewer bytes are held once some were seen.
-use Rattle.std.proofs.Common.{◌≡◌, ◌∙◌, ◌<◌, ◌≤◌, ℕ, ◌+◌, ◌-◌, false, List, [], length, drop, set, slice_get, Some, refl, sym, ap, subst, arith}
+use Rattle.std.proofs.Common.{◌≡◌, ◌∙◌, ◌<◌, ◌≤◌, ℕ, false, List, [], length, set, slice_get, Some, refl, ap, arith}
 use Rattle.std.proofs.lemmas.List.{length-drop}
-use Rattle.std.proofs.lemmas.Option.{get_or_from_slice_get, slice_get_within, slice_get-get_or}
+use Rattle.std.proofs.lemmas.Option.{get_or_from_slice_get, slice_get-get_or}
 use Rattle.mav_stream.specs.Held.{Held, nothing_held}
 use Rattle.relay_core.specs.Moves.{OthersKept, held_at}
 use Rattle.relay_core.specs.Scans.{consumed}

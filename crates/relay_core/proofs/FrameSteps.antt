@@ -1,9 +1,8 @@
 -- A run goes on with a frame.
-use Rattle.std.proofs.Common.{◌≡◌, ◌∙◌, ◌<◌, ◌≤◌, ◌⊎◌, inl, inr, ℕ, zero, suc, ◌+◌, ◌-◌, ◌==◌, ◌&&◌, Bool, true, false, if◌then◌else◌, List, [], ◌∷◌, ◌++◌, length, map, filter, get_or, set, slice_get, Option, Some, None, option_map, refl, sym, ap, subst, arith}
+use Rattle.std.proofs.Common.{◌≡◌, ◌∙◌, ◌<◌, inl, inr, ℕ, zero, suc, ◌+◌, ◌-◌, ◌==◌, Bool, true, false, if◌then◌else◌, List, [], ◌∷◌, ◌++◌, length, map, filter, get_or, set, slice_get, Option, Some, None, refl, sym, ap, subst, arith}
 use Rattle.std.proofs.lemmas.Bool.{cases_Bool}
 use Rattle.std.proofs.lemmas.List.{append-nil}
 use Rattle.std.proofs.lemmas.Option.{get_or_from_slice_get, slice_get_within, slice_get-get_or}
-use Rattle.mav_names.specs.declared.names.Name.{Name}
 use Rattle.mav_frame.specs.Packet.{Packet}
 use Rattle.mav_frame.specs.Encoding.{encoding}
 use Rattle.mav_sign.specs.declared.admission.Admit.{Admit}
@@ -17,11 +16,10 @@ use Rattle.link_table.specs.OpenLinks.{has_link}
 use Rattle.mav_router.specs.Journal.{Rules}
 use Rattle.relay_rules.specs.Kept.{LinksKept, Represents, head_of}
 use Rattle.relay_rules.specs.States.{LinkState, RelayState, link_at, no_link, taught}
-use Rattle.relay_rules.specs.Steps.{Event, Hears, hears}
-use Rattle.relay_rules.specs.declared.links.OpenLink.{OpenLink}
-use Rattle.relay_core.specs.Flows.{Course, Flow, Goes, Told, each_from, flow_after, flows_after, nothing_yet, one_told, passes, reaches, told_of, ways_to, with_if}
+use Rattle.relay_rules.specs.Steps.{hears}
+use Rattle.relay_core.specs.Flows.{Flow, Goes, Told, each_from, flow_after, nothing_yet, one_told, passes, reaches, told_of, with_if}
 use Rattle.relay_core.specs.Moves.{IsTried, Moved, tells}
-use Rattle.relay_core.specs.RelayRuns.{HasClosed, Hearing, HoldsSoFar, IsOpenAt, IsRun, RelayKept, RelayRun, Sending, Tape, WasHeard, WasSent}
+use Rattle.relay_core.specs.RelayRuns.{HasClosed, Hearing, HoldsSoFar, IsOpenAt, IsRun, RelayRun, Sending, Tape}
 use Rattle.relay_core.specs.Scans.{consumed}
 use Rattle.relay_core.specs.Waitings.{WaitingState, WaitsAt, waits}
 use Rattle.relay_core.proofs.Halves.{hearing_frame, hearing_kept, hearing_skips, sending_kept, sending_push, was_heard_kept, was_sent_kept}

@@ -1,7 +1,6 @@
 -- A frame that was tried, and was told.
-use Rattle.std.proofs.Common.{◌≡◌, ◌∙◌, ◌<◌, ℕ, zero, suc, ◌+◌, ◌&&◌, Bool, List, [], ◌∷◌, length, map, filter, slice_get, Option, Some, refl, sym, ap, subst, arith}
+use Rattle.std.proofs.Common.{◌≡◌, ◌∙◌, ◌<◌, ℕ, zero, suc, ◌+◌, ◌&&◌, List, [], ◌∷◌, length, map, slice_get, Option, Some, refl, sym, ap, subst, arith}
 use Rattle.mav_frame.specs.Packet.{Packet}
-use Rattle.mav_frame.specs.Encoding.{encoding}
 use Rattle.mav_sign.specs.declared.admission.Admit.{Admit}
 use Rattle.mav_sign.specs.History.{is_admitted}
 use Rattle.mav_sign.specs.Kept.{HasRoom, Kept}
@@ -14,7 +13,6 @@ use Rattle.relay_rules.specs.States.{LinkState, RelayState, goes_to, heard, link
 use Rattle.relay_rules.specs.declared.links.OpenLink.{OpenLink}
 use Rattle.relay_core.specs.Flows.{Told, one_told, passes}
 use Rattle.relay_core.specs.Moves.{IsTried, numbers_of, tells}
-use Rattle.relay_core.specs.Waitings.{WaitingState, WaitsAt}
 use Rattle.relay_core.proofs.FrameSteps.{as_many, there_is}
 use Rattle.relay_core.proofs.Places.{nothing_there, same_some}
 use Rattle.relay_core.proofs.Telling.{numbers_passing}

@@ -1,23 +1,22 @@
 -- What a step leaves of one link: of what it gave and was heard, and of what goes out and was taken.
-use Rattle.std.proofs.Common.{◌≡◌, ◌∙◌, ◌<◌, ◌≤◌, ℕ, ◌+◌, ◌-◌, ◌^◌, min, Bool, true, false, if◌then◌else◌, List, [], ◌∷◌, ◌++◌, length, map, take, drop, Some, None, refl, sym, ap, subst, arith}
+use Rattle.std.proofs.Common.{◌≡◌, ◌∙◌, ℕ, ◌+◌, ◌-◌, ◌^◌, min, Bool, false, List, [], ◌∷◌, ◌++◌, length, map, take, refl, sym, ap, subst, arith}
 use Rattle.std.proofs.lemmas.List.{append-nil, map-append}
 use Rattle.std.proofs.lemmas.List.Elements.{filter_map-append}
 use Rattle.mav_frame.specs.Packet.{Packet}
 use Rattle.mav_frame.specs.Encoding.{encoding}
 use Rattle.mav_frame.specs.Parse.{Incremental, IsIncomplete}
-use Rattle.mav_frame.specs.declared.events.Event.{Event as FrameEvent}
 use Rattle.mav_frame.specs.declared.events.Event.TheVariants.{Frame as FrameFound}
 use Rattle.mav_frame.proofs.LongerParse.{incremental_ends}
 use Rattle.mav_frame.specs.declared.looks.Why.{Why}
 use Rattle.mav_profile.specs.Messages.{extras_of}
 use Rattle.mav_sign.specs.Endpoints.{frames_of, frame_in}
 use Rattle.mav_stream.specs.Held.{Held}
-use Rattle.mav_stream.specs.Progress.{Feeds, IsWhole, Progress}
+use Rattle.mav_stream.specs.Progress.{Feeds, Progress}
 use Rattle.mav_stream.specs.Spans.{IsNextSpan, first_packet, skipped_for}
 use Rattle.mav_stream.specs.declared.spans.NextSpan.TheVariants.{Frame, Skipped, Need}
 use Rattle.link_table.specs.Routing.{has_port}
 use Rattle.mav_router.specs.Journal.{Rules}
-use Rattle.relay_queue.specs.Queues.{QueueState, count_of, next_bytes, pushed, queue_of}
+use Rattle.relay_queue.specs.Queues.{count_of, next_bytes, pushed}
 use Rattle.relay_queue.specs.Deliveries.{Delivers}
 use Rattle.relay_queue.proofs.Deliveries.{delivers_closed, delivers_new, delivers_push, delivers_wrote}
 use Rattle.relay_core.specs.Flows.{Flow, no_flow}

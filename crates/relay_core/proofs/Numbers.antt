@@ -1,19 +1,19 @@
 -- The numbers of the links of a run.
-use Rattle.std.proofs.Common.{◌≡◌, ◌∙◌, ◌<◌, ◌≤◌, ◌⊎◌, inl, inr, ℕ, zero, suc, ◌+◌, ◌-◌, ◌==◌, ◌||◌, ◌&&◌, Bool, true, false, if◌then◌else◌, List, [], ◌∷◌, ◌++◌, length, get_or, set, slice_get, Some, refl, sym, ap, subst, arith}
+use Rattle.std.proofs.Common.{◌≡◌, ◌∙◌, ◌<◌, ◌≤◌, ◌⊎◌, inl, inr, ℕ, zero, suc, ◌+◌, ◌==◌, ◌||◌, ◌&&◌, Bool, true, false, if◌then◌else◌, List, [], ◌∷◌, ◌++◌, set, slice_get, Some, refl, sym, ap, subst, arith}
 use Rattle.std.specs.List.{list_any, remove}
 use Rattle.std.proofs.lemmas.Grind.{common_steps}
-use Rattle.std.proofs.lemmas.Option.{get_or_from_slice_get, slice_get_within}
+use Rattle.std.proofs.lemmas.Option.{slice_get_within}
 use Rattle.mav_frame.specs.Packet.{Packet}
 use Rattle.mav_sign.specs.declared.admission.Admit.{Admit}
 use Rattle.mav_sign.specs.History.{is_admitted}
 use Rattle.mav_sign.specs.Kept.{Kept}
 use Rattle.mav_router.specs.Journal.{Rules}
-use Rattle.relay_rules.specs.States.{LinkState, RelayState, link_at, no_link, opened_link, taught}
+use Rattle.relay_rules.specs.States.{LinkState, RelayState, link_at, opened_link, taught}
 use Rattle.relay_rules.specs.Steps.{Event, opens, closes, hears, refuses}
 use Rattle.relay_rules.proofs.Numbering.{got_more, got_less}
 use Rattle.relay_core.specs.Flows.{Course, Goes, GoesBy, link_numbered, nothing_yet, passes, reaches}
 use Rattle.relay_core.specs.RelayRuns.{IsRun, RelayRun}
-use Rattle.relay_core.proofs.Places.{is_same_or, nothing_there, same_some, set_elsewhere, set_there}
+use Rattle.relay_core.proofs.Places.{nothing_there, same_some}
 
 -- the numbers of open links rise, from 1, and none is above how many were given
 pub record Rising (given : ℕ) (links : List LinkState) : Type 0 where

@@ -18,7 +18,7 @@ use Rattle.relay_rules.specs.States.{LinkState, RelayState}
 use Rattle.relay_rules.specs.Steps.{Event}
 use Rattle.relay_core.specs.Flows.{Flow, Told}
 use Rattle.relay_core.specs.Moves.{IsTried, Moved, Moves, Stopped, Stops, tells}
-use Rattle.relay_core.specs.RelayRuns.{HasClosed, Hearing, HoldsInPart, HoldsSoFar, IsOpenAt, IsRun, RelayKept, RelayRun, Sending, Tape, WasHeard, WasHeardInPart, WasSent}
+use Rattle.relay_core.specs.RelayRuns.{Hearing, HoldsInPart, HoldsSoFar, IsOpenAt, RelayKept, RelayRun, Tape, WasHeard, WasHeardInPart}
 use Rattle.relay_core.specs.Scans.{consumed}
 use Rattle.relay_core.specs.Waitings.{WaitingState, WaitsAt, nothing_waits, waits}
 use Rattle.relay_core.proofs.FrameSteps.{as_many, frame_moves}

@@ -2,15 +2,14 @@
 use Rattle.std.proofs.Common.{◌≡◌, ◌∙◌, ◌<◌, ◌≤◌, ℕ, zero, suc, ◌+◌, Bool, true, false, if◌then◌else◌, List, [], ◌∷◌, ◌++◌, length, map, filter, get_or, set, take, drop, slice_get, Option, Some, None, refl, sym, ap, arith, append_assoc}
 use Rattle.std.proofs.lemmas.List.{append-nil}
 use Rattle.std.proofs.lemmas.Option.{slice_get-get_or}
-use Rattle.mav_sign.specs.Kept.{Kept}
 use Rattle.mav_router.specs.Journal.{Rules}
 use Rattle.relay_rules.specs.Kept.{head_of}
-use Rattle.relay_rules.specs.States.{LinkState, link_at, no_link}
+use Rattle.relay_rules.specs.States.{LinkState, link_at}
 use Rattle.relay_rules.specs.Steps.{Event, closes, hears, opens, refuses}
 use Rattle.relay_rules.specs.declared.links.OpenLink.{OpenLink}
 use Rattle.relay_core.specs.Flows.{Told}
-use Rattle.relay_core.specs.Moves.{AreHeard, Moved, Moves, numbers_of, tells}
-use Rattle.relay_core.specs.RelayRuns.{HoldsSoFar, IsRun, RelayKept, RelayRun}
+use Rattle.relay_core.specs.Moves.{AreHeard, Moves, numbers_of, tells}
+use Rattle.relay_core.specs.RelayRuns.{RelayKept}
 use Rattle.relay_core.proofs.Places.{nothing_there, same_some}
 
 pub tells_more : (told : Option (List Told)) (a b : List Told) → tells (tells told a) b ≡ tells told (a ++ b)

@@ -1,6 +1,5 @@
 -- A run of a relay: its history, and the bytes of its links.
-use Rattle.std.specs.Prelude.{ℕ, suc, ◌≡◌, ◌+◌, ◌-◌, ◌<◌, ◌==◌, Bool, false, if◌then◌else◌, List, [], ◌∷◌, ◌++◌, length, map, slice_get, Some}
-use Rattle.mav_frame.specs.Packet.{Packet}
+use Rattle.std.specs.Prelude.{ℕ, ◌≡◌, ◌+◌, ◌-◌, ◌<◌, false, List, length, map, slice_get, Some}
 use Rattle.mav_frame.specs.Encoding.{encoding}
 use Rattle.mav_frame.specs.Parse.{BeginsIncremental, Incremental, IsIncomplete}
 use Rattle.mav_frame.specs.declared.events.Event.{Event as FrameEvent}
@@ -13,9 +12,9 @@ use Rattle.mav_router.specs.Journal.{Rules}
 use Rattle.mav_router.specs.Runs.{PortProgress}
 use Rattle.relay_queue.specs.Deliveries.{Delivered, Delivers}
 use Rattle.relay_rules.specs.Kept.{LinksKept, Represents}
-use Rattle.relay_rules.specs.States.{LinkState, RelayState}
+use Rattle.relay_rules.specs.States.{LinkState}
 use Rattle.relay_rules.specs.Steps.{Event}
-use Rattle.relay_core.specs.Flows.{Course, Flow, GoesBy, Told, each_from, nothing_yet}
+use Rattle.relay_core.specs.Flows.{Course, Flow, GoesBy, nothing_yet}
 use Rattle.relay_core.specs.Waitings.{WaitingState, counted}
 
 -- the bytes that a link gave, and those that it took

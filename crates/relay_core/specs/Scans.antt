@@ -1,5 +1,5 @@
 -- What the scanners of the open links hold.
-use Rattle.std.specs.Prelude.{ℕ, ◌≡◌, ◌++◌, List, take, drop, slice_set}
+use Rattle.std.specs.Prelude.{ℕ, ◌≡◌, List, drop, slice_set}
 use Rattle.mav_stream.specs.Held.{Held}
 use Rattle.mav_stream.specs.Progress.{Feeds}
 

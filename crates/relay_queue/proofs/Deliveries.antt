@@ -1,10 +1,10 @@
 -- What a push, a write and a close leave of what was delivered.
-use Rattle.std.proofs.Common.{◌≡◌, ◌∙◌, ◌<◌, ◌≤◌, ◌⊎◌, inl, inr, ℕ, zero, suc, ◌+◌, ◌-◌, ◌==◌, nat_lt, Bool, true, false, if◌then◌else◌, List, [], ◌∷◌, ◌++◌, length, take, drop, refl, sym, ap, subst, arith, append_assoc, length-append}
+use Rattle.std.proofs.Common.{◌≡◌, ◌∙◌, ◌<◌, ◌≤◌, inl, inr, ℕ, zero, suc, ◌+◌, ◌-◌, ◌==◌, nat_lt, Bool, true, false, if◌then◌else◌, List, [], ◌∷◌, ◌++◌, length, take, drop, refl, sym, ap, subst, arith, append_assoc, length-append}
 use Rattle.std.specs.List.{concat}
 use Rattle.std.proofs.lemmas.Bool.{cases_Bool}
 use Rattle.std.proofs.lemmas.Bool.Decides.{nat_tests}
 use Rattle.std.proofs.lemmas.List.{append-nil, length-drop, take-append-drop, take-append-le}
-use Rattle.relay_queue.specs.Queues.{QueueState, count_of, has_begun, newest, next_bytes, pushed, queue_limit, queue_of, size_of, taken, written}
+use Rattle.relay_queue.specs.Queues.{QueueState, count_of, has_begun, newest, next_bytes, pushed, queue_of, size_of, taken, written}
 use Rattle.relay_queue.specs.Deliveries.{Delivered, Delivers, LeavesOut}
 use Rattle.relay_queue.proofs.Frames.{is_empty, is_less, next_begun, next_waiting}
 use Rattle.relay_queue.proofs.Limits.{by_cases}

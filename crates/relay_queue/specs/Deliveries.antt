@@ -1,5 +1,5 @@
 -- What becomes of the frames that were pushed to a queue.
-use Rattle.std.specs.Prelude.{ℕ, suc, ◌≡◌, ◌+◌, ◌-◌, ◌⊎◌, Bool, if◌then◌else◌, List, [], ◌∷◌, ◌++◌, length, take}
+use Rattle.std.specs.Prelude.{ℕ, suc, ◌≡◌, ◌+◌, ◌-◌, ◌⊎◌, if◌then◌else◌, List, [], ◌∷◌, ◌++◌, length, take}
 use Rattle.std.specs.List.{concat}
 use Rattle.relay_queue.specs.Queues.{QueueState, count_of, has_begun, next_bytes, pushed, queue_of, taken}
 

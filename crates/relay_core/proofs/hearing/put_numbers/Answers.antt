@@ -1,4 +1,4 @@
-use Rattle.std.proofs.Common.{◌≡◌, ◌∙◌, ◌<◌, ◌≤◌, ◌+◌, ◌++◌, List, ℕ, length, set, take, drop, arith, ap, sym, length-set}
+use Rattle.std.proofs.Common.{◌∙◌, ◌<◌, ◌+◌, ◌++◌, length, take, drop, arith, ap, sym, length-set}
 use Rattle.link_table.specs.OpenLinks.{has_link}
 use Rattle.relay_core.specs.Moves.{numbers_of}
 use Rattle.relay_core.proofs.Telling.{put_more, put_none}

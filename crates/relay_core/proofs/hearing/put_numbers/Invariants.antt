@@ -1,4 +1,4 @@
-use Rattle.std.proofs.Common.{◌≡◌, ◌≤◌, ◌++◌, length, take, drop}
+use Rattle.std.proofs.Common.{◌≡◌, ◌≤◌, ◌++◌, take, drop}
 use Rattle.link_table.specs.OpenLinks.{has_link}
 use Rattle.relay_core.specs.Moves.{numbers_of}
 use Rattle.relay_core.proofs.hearing.put_numbers.Given as goal

@@ -1,4 +1,3 @@
-use Rattle.std.proofs.Common.{◌≡◌, length}
 use Rattle.relay_core.proofs.FrameTried.{frame_tried}
 use Rattle.relay_core.proofs.hearing.try_frame.Goals as goal
 

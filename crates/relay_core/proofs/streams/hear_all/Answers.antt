@@ -1,5 +1,5 @@
-use Rattle.std.proofs.Common.{◌≡◌, ◌∙◌, refl}
-use Rattle.relay_core.specs.Moves.{Moves, Stops}
+use Rattle.std.proofs.Common.{◌∙◌, refl}
+use Rattle.relay_core.specs.Moves.{Stops}
 use Rattle.relay_core.specs.RelayRuns.{RelayKept}
 use Rattle.relay_core.proofs.Fewer.{others_none, others_on}
 use Rattle.relay_core.proofs.Results.{on_err}

@@ -1,4 +1,4 @@
-use Rattle.std.proofs.Common.{◌≡◌, ◌∙◌, ◌<◌, ◌≤◌, List, ℕ, length, arith, ap, subst, sym}
+use Rattle.std.proofs.Common.{◌∙◌, ◌<◌, List, ℕ, length, arith, ap, subst, sym}
 use Rattle.mav_frame.specs.Packet.{Packet}
 use Rattle.mav_frame.specs.Encoding.{encoding}
 use Rattle.mav_stream.specs.Held.{Held}

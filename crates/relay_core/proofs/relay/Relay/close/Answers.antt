@@ -1,4 +1,4 @@
-use Rattle.std.proofs.Common.{◌≡◌, ◌<◌, length, subst, sym}
+use Rattle.std.proofs.Common.{◌<◌, length, subst, sym}
 use Rattle.relay_core.specs.RelayRuns.{Holds, RelayKept}
 use Rattle.relay_core.proofs.CallSteps.{closes_run}
 use Rattle.relay_core.proofs.relay.Relay.close.Goals as goal

@@ -1,4 +1,4 @@
-use Rattle.std.proofs.Common.{◌≡◌, ◌∙◌, ◌<◌, ◌++◌, ◌∷◌, [], List, length, ap, subst, sym}
+use Rattle.std.proofs.Common.{◌∙◌, ◌<◌, ◌++◌, ◌∷◌, [], length, ap, subst, sym}
 use Rattle.mav_stream.specs.Held.{Held}
 use Rattle.relay_core.specs.RelayRuns.{Holds, RelayKept}
 use Rattle.relay_core.proofs.CallSteps.{opens_run}

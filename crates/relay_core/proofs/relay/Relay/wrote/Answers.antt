@@ -1,6 +1,5 @@
-use Rattle.std.proofs.Common.{◌≡◌, ◌∙◌, ◌<◌, List, length, set, slice_get, Some, refl, ap, subst, sym}
+use Rattle.std.proofs.Common.{◌≡◌, ◌<◌, length, slice_get, Some, refl, subst, sym}
 use Rattle.relay_core.specs.RelayRuns.{Holds, RelayKept}
-use Rattle.relay_core.specs.Waitings.{WaitingState, wrote}
 use Rattle.relay_core.proofs.TapeSteps.{takes_run}
 use Rattle.relay_core.proofs.relay.Relay.wrote.Goals as goal
 

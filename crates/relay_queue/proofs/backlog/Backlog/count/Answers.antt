@@ -1,4 +1,4 @@
-use Rattle.std.proofs.Common.{◌∙◌, ◌+◌, arith, ap, sym, true, false, ℕ, ◌≡◌}
+use Rattle.std.proofs.Common.{◌∙◌, ◌+◌, arith, ap, sym, true, false, ℕ}
 use Rattle.relay_queue.proofs.Frames.{count_begun}
 use Rattle.relay_queue.proofs.backlog.Backlog.count.Goals as goal
 

@@ -1,4 +1,4 @@
-use Rattle.std.proofs.Common.{◌≡◌, ◌∙◌, ◌-◌, List, ℕ, true, length, nat_lt, refl, arith, ap, sym}
+use Rattle.std.proofs.Common.{◌∙◌, ◌-◌, List, ℕ, length, nat_lt, arith, ap, sym}
 use Rattle.std.proofs.lemmas.List.{length-drop}
 use Rattle.relay_queue.specs.Queues.{QueueState, newest, queue_of, size_of}
 use Rattle.relay_queue.proofs.Frames.{all_fit, drop_one}

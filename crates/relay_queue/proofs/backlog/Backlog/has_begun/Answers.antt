@@ -1,4 +1,4 @@
-use Rattle.std.proofs.Common.{◌≡◌, ◌∙◌, ap, subst, nat_lt, sym}
+use Rattle.std.proofs.Common.{◌≡◌, ◌∙◌, ap, subst, nat_lt}
 use Rattle.relay_queue.specs.Queues.{QueueState, has_begun}
 use Rattle.relay_queue.proofs.Frames.{begun_is_some}
 use Rattle.relay_queue.proofs.backlog.Backlog.has_begun.Goals as goal

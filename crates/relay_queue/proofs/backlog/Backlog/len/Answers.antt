@@ -1,4 +1,4 @@
-use Rattle.std.proofs.Common.{◌≡◌, ◌∙◌, ◌+◌, ◌-◌, ◌≤◌, arith, length, drop, subst}
+use Rattle.std.proofs.Common.{◌≡◌, ◌+◌, ◌-◌, ◌≤◌, arith, length, drop, subst}
 use Rattle.std.proofs.lemmas.List.{length-drop}
 use Rattle.relay_queue.specs.Queues.{QueueState, size_of}
 use Rattle.relay_queue.proofs.Frames.{size_frames}

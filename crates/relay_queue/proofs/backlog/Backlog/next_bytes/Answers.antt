@@ -1,4 +1,4 @@
-use Rattle.std.proofs.Common.{◌∙◌, ◌≡◌, List, ℕ, arith, ap, sym, drop, length}
+use Rattle.std.proofs.Common.{◌∙◌, arith, ap, sym, drop}
 use Rattle.std.specs.List.{concat}
 use Rattle.std.proofs.lemmas.List.{length-drop}
 use Rattle.relay_queue.specs.Queues.{QueueState}

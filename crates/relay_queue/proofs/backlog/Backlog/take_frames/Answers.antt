@@ -1,4 +1,4 @@
-use Rattle.std.proofs.Common.{◌≡◌, ◌∙◌, ◌-◌, List, ℕ, refl, arith, ap, sym, drop, length, subst, ◌<◌}
+use Rattle.std.proofs.Common.{◌∙◌, ◌-◌, refl, arith, ap}
 use Rattle.relay_queue.specs.Queues.{QueueState, written}
 use Rattle.relay_queue.proofs.Frames.{all_left, is_empty, none_left, not_begun, part_written, whole_written}
 use Rattle.relay_queue.proofs.backlog.Backlog.take_frames.Goals as goal

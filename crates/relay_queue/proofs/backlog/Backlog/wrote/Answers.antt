@@ -1,4 +1,4 @@
-use Rattle.std.proofs.Common.{◌∙◌, ◌≡◌, ◌≤◌, ◌+◌, List, ℕ, arith, ap, sym, drop, length, subst}
+use Rattle.std.proofs.Common.{◌∙◌, List, ℕ, arith, ap, sym, drop, length}
 use Rattle.std.proofs.lemmas.List.{length-drop, drop-drop}
 use Rattle.relay_queue.specs.Queues.{QueueState, frames_in, queue_of}
 use Rattle.relay_queue.proofs.Frames.{next_begun, taken_begun, taken_waiting}

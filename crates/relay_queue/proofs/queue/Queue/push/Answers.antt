@@ -1,5 +1,3 @@
-use Rattle.std.proofs.Common.{◌≡◌, ◌∙◌, ◌+◌, ◌≤◌, ◌-◌, ◌++◌, ◌∷◌, [], length, ap, arith, subst, sym}
-use Rattle.relay_queue.specs.Queues.{QueueState, pushed, size_of}
 use Rattle.relay_queue.proofs.Limits.{push_few}
 use Rattle.relay_queue.proofs.queue.Queue.push.Goals as goal
 

@@ -1,4 +1,4 @@
-use Rattle.std.proofs.Common.{◌≡◌, ◌∙◌, ◌+◌, ◌≤◌, length, ap, arith, subst, sym}
+use Rattle.std.proofs.Common.{◌+◌, ◌≤◌, length, arith, subst, sym}
 use Rattle.relay_queue.specs.Queues.{QueueState, size_of}
 use Rattle.relay_queue.proofs.Limits.{taken_fewer}
 use Rattle.relay_queue.proofs.queue.Queue.wrote.Goals as goal
