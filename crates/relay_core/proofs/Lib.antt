@@ -3,6 +3,7 @@ mod Fewer
 mod FrameSteps
 mod FrameTried
 mod Halves
+mod Histories
 mod Numbers
 mod Passing
 mod Places

@@ -1,5 +1,6 @@
 pub mod Calls
 pub mod Flows
+pub mod Laws
 pub mod Moves
 pub mod RelayRuns
 pub mod Scans

@@ -8,6 +8,7 @@
 #![tactic(auto)]
 
 mod hearing;
+pub mod laws;
 mod queues;
 mod relay;
 mod scanners;

@@ -71,6 +71,8 @@ impl Relay {
     pub fn link(&self, index: usize) -> OpenLink
         requires { index < length self.now.links.links }
         ensures link { slice_get self.now.links.links index ≡ Some result }
+        ensures from { 1 ≤ result.port }
+        ensures to { result.port ≤ 8 }
     {
         self.links.link(index)
     }

@@ -1,3 +1,3 @@
 pub mod Numbering
-mod RouteLaws
+pub mod RouteLaws
 mod Routes
