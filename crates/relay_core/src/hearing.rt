@@ -42,7 +42,8 @@ fn tell<W: Watcher>(
 )
     requires within { index < length links.now.links }
     ensures { (link : OpenLink) → slice_get links.now.links index ≡ Some link
-        → W.told watcher.new ≡ tells (W.told watcher.old) (one_told link.number frame.now heard.admit (numbers_of (has_link heard.ways.bits) 0 links.now.links)) }
+        → W.told watcher.new ≡ tells (W.told watcher.old)
+        (one_told link.number frame.now heard.admit (numbers_of (has_link heard.ways.bits) 0 links.now.links)) }
 {
     let mut numbers = [0; LINK_LIMIT];
     let count = put_numbers(links, heard.ways, &mut numbers);

@@ -95,7 +95,8 @@ impl Relay {
         requires numbers { self.old.links.given + 1 < 2 ^ 64 }
         ensures number { IfOk result (λ number. number ≡ self.old.links.given + 1) }
         ensures opens { OnOk result (Opens rules.now port self.old self.new) }
-        ensures links { IfOk result (λ number. self.new.links.links ≡ self.old.links.links ++ (record { number = number; port = port }) ∷ []) }
+        ensures links { IfOk result (λ number. self.new.links.links ≡ self.old.links.links ++
+            (record { number = number; port = port }) ∷ []) }
         ensures unchanged { OnErr result (self.new ≡ self.old) }
     {
         let scanner = self.scanners.make(rules, port)?;
@@ -117,8 +118,8 @@ impl Relay {
         self.queues.close(index)
     }
 
-    /// The open link with that index gave these bytes: each frame that they end is tried, waits where it goes, and is told
-    /// to the watcher. Without memory what waits is of no use any more, and what was told is true.
+    /// The open link with that index gave these bytes: each frame that they end is tried, waits where it goes, and is
+    /// told to the watcher. Without memory what waits is of no use any more, and what was told is true.
     pub fn hear<W: Watcher>(
         &mut self,
         rules: &RouterRules<'_>,
@@ -128,8 +129,10 @@ impl Relay {
     ) -> Result<(), NoMemory>
         requires within { index < length self.old.links.links }
         requires short { length bytes.now ≤ 65536 }
-        ensures hears { OnOk result (Hears rules.now index bytes.now self.old self.new (W.told watcher.old) (W.told watcher.new)) }
-        ensures stops { OnErr result (HearsInPart rules.now index bytes.now self.old (W.told watcher.old) (W.told watcher.new)) }
+        ensures hears { OnOk result (Hears rules.now index bytes.now self.old self.new (W.told watcher.old)
+            (W.told watcher.new)) }
+        ensures stops { OnErr result (HearsInPart rules.now index bytes.now self.old (W.told watcher.old)
+            (W.told watcher.new)) }
         ensures links { self.new.links.links ≡ self.old.links.links }
         ensures given { self.new.links.given ≡ self.old.links.given }
     {
@@ -147,7 +150,8 @@ impl Relay {
     /// The bytes to write next to the open link with that index.
     pub fn next_bytes(&self, index: usize) -> &[u8]
         requires { index < length self.now.links.links }
-        ensures { (waiting : WaitingState) → slice_get self.now.queues index ≡ Some waiting → result.now ≡ next_bytes waiting.queue }
+        ensures { (waiting : WaitingState) → slice_get self.now.queues index ≡ Some waiting
+            → result.now ≡ next_bytes waiting.queue }
     {
         self.queues.next_bytes(index)
     }
@@ -155,7 +159,8 @@ impl Relay {
     /// That link took so many of them.
     pub fn wrote(&mut self, index: usize, count: usize)
         requires within { index < length self.old.links.links }
-        requires count { (waiting : WaitingState) → slice_get self.old.queues index ≡ Some waiting → count ≤ length (next_bytes waiting.queue) }
+        requires count { (waiting : WaitingState) → slice_get self.old.queues index ≡ Some waiting
+            → count ≤ length (next_bytes waiting.queue) }
         ensures takes { Takes index count self.old self.new }
         ensures links { self.new.links ≡ self.old.links }
     {

@@ -29,14 +29,17 @@ fn hear_next<W: Watcher>(
         (record { links = links.old; scanners = scanners.old; queues = queues.old })
         (record { links = links.new; scanners = scanners.new; queues = queues.new })
         (W.told watcher.old) (W.told watcher.new)) }
-    ensures stops { OnErr result (Stops rules.now (record { links = links.old; scanners = scanners.old; queues = queues.old })
+    ensures stops { OnErr result (Stops rules.now
+        (record { links = links.old; scanners = scanners.old; queues = queues.old })
         (W.told watcher.old) (W.told watcher.new)) }
     ensures links { links.new.links ≡ links.old.links }
     ensures given { links.new.given ≡ links.old.given }
     ensures others { OthersKept index scanners.old scanners.new }
     ensures count { length queues.new ≡ length queues.old }
-    ensures fewer { IfOk result (λ more. more ≡ true → length (held_at scanners.new index).bytes < length (held_at scanners.old index).bytes) }
-    ensures rests { IfOk result (λ more. more ≡ false → (held_at scanners.new index).ended ≡ false → IsResting (held_at scanners.new index)) }
+    ensures fewer { IfOk result (λ more. more ≡ true
+        → length (held_at scanners.new index).bytes < length (held_at scanners.old index).bytes) }
+    ensures rests { IfOk result (λ more. more ≡ false → (held_at scanners.new index).ended ≡ false
+        → IsResting (held_at scanners.new index)) }
 {
     match scanners.next_span(index) {
         NextSpan::Need => Ok(false),
@@ -70,7 +73,8 @@ pub(crate) fn hear_all<W: Watcher>(
         (record { links = links.old; scanners = scanners.old; queues = queues.old })
         (record { links = links.new; scanners = scanners.new; queues = queues.new })
         (W.told watcher.old) (W.told watcher.new)) }
-    ensures stops { OnErr result (Stops rules.now (record { links = links.old; scanners = scanners.old; queues = queues.old })
+    ensures stops { OnErr result (Stops rules.now
+        (record { links = links.old; scanners = scanners.old; queues = queues.old })
         (W.told watcher.old) (W.told watcher.new)) }
     ensures links { links.new.links ≡ links.old.links }
     ensures given { links.new.given ≡ links.old.given }

@@ -14,8 +14,8 @@ pub trait Watcher {
     /// What it was told, if that is known.
     ghost told: { Self → Option (List Told) };
 
-    /// A frame came in at the link with that number, or, if it is 0, of somebody who has no link. These are the verdict,
-    /// and the numbers of the links that it goes to, in the order of their opening.
+    /// A frame came in at the link with that number, or, if it is 0, of somebody who has no link. These are the
+    /// verdict, and the numbers of the links that it goes to, in the order of their opening.
     fn tell(&mut self, number: u64, frame: &RawFrame<'_>, answer: Admit, to: &[u64])
         ensures { told self.new ≡ tells (told self.old) (one_told number frame.now answer to.now) };
 }
