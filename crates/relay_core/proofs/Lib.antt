@@ -1,1 +1,13 @@
+mod CallSteps
+mod Fewer
+mod FrameSteps
+mod FrameTried
+mod Halves
+mod Histories
+mod Numbers
 mod Passing
+mod Places
+mod Results
+mod Stopping
+mod TapeSteps
+mod Telling

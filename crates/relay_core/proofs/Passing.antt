@@ -1,5 +1,5 @@
 -- A frame that waits at one link after another.
-use Rattle.std.proofs.Common.{◌≡◌, ◌∙◌, ◌<◌, ◌≤◌, ◌⊎◌, inl, inr, ℕ, zero, suc, ◌+◌, Bool, true, false, if◌then◌else◌, List, [], ◌∷◌, length, set, get_or, slice_get, Some, None, refl, sym, ap, subst, arith, length-set}
+use Rattle.std.proofs.Common.{◌≡◌, ◌∙◌, ◌<◌, inl, inr, ℕ, zero, suc, ◌+◌, Bool, true, false, if◌then◌else◌, List, [], ◌∷◌, length, set, slice_get, Some, refl, sym, ap, arith, length-set}
 use Rattle.link_table.proofs.Bits.{same_or}
 use Rattle.relay_core.specs.Waitings.{WaitingState, WaitsAt, waits}
 

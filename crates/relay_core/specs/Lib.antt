@@ -1,1 +1,7 @@
+pub mod Calls
+pub mod Flows
+pub mod Laws
+pub mod Moves
+pub mod RelayRuns
+pub mod Scans
 pub mod Waitings

@@ -67,7 +67,8 @@ fn pass_on(list: &mut Vec<Waiting>, ways: LinkSet, bytes: &[u8]) -> Result<(), N
     requires few { vec_len list.old ≤ 32 }
     requires some { 0 < length bytes.now }
     requires short { length bytes.now ≤ 280 }
-    ensures queues { OnOk result (WaitsAt (length list.old.items) (has_link ways.bits) bytes.now list.old.items list.new.items) }
+    ensures queues { OnOk result (WaitsAt (length list.old.items)
+        (has_link ways.bits) bytes.now list.old.items list.new.items) }
     ensures part { OnErr result (WaitsInPart (has_link ways.bits) bytes.now list.old.items list.new.items) }
     ensures count { vec_len list.new ≡ vec_len list.old }
     ensures room { vec_capacity list.new ≡ vec_capacity list.old }
@@ -83,7 +84,8 @@ fn pass_on(list: &mut Vec<Waiting>, ways: LinkSet, bytes: &[u8]) -> Result<(), N
 // So many of the bytes to write next to a link were written.
 fn wrote_at(list: &mut Vec<Waiting>, at: usize, count: usize)
     requires within { at < vec_len list.old }
-    requires count { (waiting : WaitingState) → slice_get list.old.items at ≡ Some waiting → count ≤ length (next_bytes waiting.queue) }
+    requires count { (waiting : WaitingState) → slice_get list.old.items at ≡ Some waiting
+        → count ≤ length (next_bytes waiting.queue) }
     ensures queues { (waiting : WaitingState) → slice_get list.old.items at ≡ Some waiting
         → list.new.items ≡ slice_set list.old.items at (wrote count waiting) }
     ensures count { vec_len list.new ≡ vec_len list.old }
@@ -131,6 +133,7 @@ impl Queues {
         requires short { length bytes.now ≤ 280 }
         ensures queues { OnOk result (WaitsAt (length self.old) (has_link ways.bits) bytes.now self.old self.new) }
         ensures part { OnErr result (WaitsInPart (has_link ways.bits) bytes.now self.old self.new) }
+        ensures count { length self.new ≡ length self.old }
     {
         pass_on(&mut self.list, ways, bytes)
     }
@@ -138,7 +141,8 @@ impl Queues {
     /// The bytes to write next to the link with that index.
     pub fn next_bytes(&self, index: usize) -> &[u8]
         requires { index < length self.now }
-        ensures { (waiting : WaitingState) → slice_get self.now index ≡ Some waiting → result.now ≡ next_bytes waiting.queue }
+        ensures { (waiting : WaitingState) → slice_get self.now index ≡ Some waiting
+            → result.now ≡ next_bytes waiting.queue }
     {
         self.list[index].next_bytes()
     }
@@ -146,11 +150,20 @@ impl Queues {
     /// So many of the bytes to write next to that link were written.
     pub fn wrote(&mut self, index: usize, count: usize)
         requires within { index < length self.old }
-        requires count { (waiting : WaitingState) → slice_get self.old index ≡ Some waiting → count ≤ length (next_bytes waiting.queue) }
-        ensures { (waiting : WaitingState) → slice_get self.old index ≡ Some waiting
+        requires count { (waiting : WaitingState) → slice_get self.old index ≡ Some waiting
+            → count ≤ length (next_bytes waiting.queue) }
+        ensures queues { (waiting : WaitingState) → slice_get self.old index ≡ Some waiting
             → self.new ≡ slice_set self.old index (wrote count waiting) }
+        ensures count { length self.new ≡ length self.old }
     {
         wrote_at(&mut self.list, index, count);
+    }
+
+    /// How many links are open.
+    pub fn len(&self) -> usize
+        ensures { result ≡ length self.now }
+    {
+        self.list.len()
     }
 
     /// How many frames of that link were dropped.

@@ -1,5 +1,5 @@
 -- The frames that stand one after another in some bytes.
-use Rattle.std.proofs.Common.{◌≡◌, ◌∙◌, ◌<◌, ◌≤◌, ℕ, zero, suc, ◌+◌, ◌-◌, ◌==◌, min, nat_lt, Bool, true, false, if◌then◌else◌, List, [], ◌∷◌, ◌++◌, length, take, drop, refl, sym, ap, subst, arith, append_assoc, length-append}
+use Rattle.std.proofs.Common.{◌≡◌, ◌∙◌, ◌<◌, ◌≤◌, ℕ, zero, suc, ◌+◌, ◌-◌, ◌==◌, nat_lt, Bool, true, false, if◌then◌else◌, List, [], ◌∷◌, ◌++◌, length, take, drop, refl, sym, ap, arith, length-append}
 use Rattle.std.specs.List.{concat}
 use Rattle.std.proofs.lemmas.Bool.Decides.{nat_tests}
 use Rattle.std.proofs.lemmas.List.{length-drop, length-take-le, drop-drop, take-append-drop, take-append-le, drop-append-le}
@@ -29,9 +29,9 @@ all_frames (n ∷ ns) bytes e =
 
 -- ---- a frame more
 
-pub frames_are_more : (sizes : List ℕ) (n : ℕ) → n ≤ 280 → AreFrames sizes → AreFrames (sizes ++ n ∷ [])
-frames_are_more [] n few all = (few, tt)
-frames_are_more (m ∷ ms) n few all = (all.0, frames_are_more ms n few all.1)
+pub frames_are_more : (sizes : List ℕ) (n : ℕ) → 0 < n → n ≤ 280 → AreFrames sizes → AreFrames (sizes ++ n ∷ [])
+frames_are_more [] n some few all = (some, few, tt)
+frames_are_more (m ∷ ms) n some few all = (all.0, all.1, frames_are_more ms n some few all.2)
 
 pub total_more : (sizes : List ℕ) (n : ℕ) → total (sizes ++ n ∷ []) ≡ total sizes + n
 total_more [] n = omega arith

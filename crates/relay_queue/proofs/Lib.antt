@@ -1,1 +1,3 @@
+pub mod Deliveries
 mod Frames
+mod Limits

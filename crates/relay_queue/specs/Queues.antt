@@ -1,5 +1,5 @@
 -- A queue of frames that wait to be written.
-use Rattle.std.specs.Prelude.{ℕ, ◌+◌, ◌-◌, ◌==◌, ◌≤◌, ⊤, nat_lt, Bool, if◌then◌else◌, List, [], ◌∷◌, ◌++◌, length, take, drop}
+use Rattle.std.specs.Prelude.{ℕ, ◌+◌, ◌-◌, ◌==◌, ◌<◌, ◌≤◌, ⊤, nat_lt, Bool, if◌then◌else◌, List, [], ◌∷◌, ◌++◌, length, take, drop}
 use Rattle.std.specs.List.{concat}
 
 -- what is left of a frame of which a part was written, and the whole frames that wait, the oldest first
@@ -54,10 +54,10 @@ abbrev pub total : List ℕ → ℕ
 total [] = 0
 total (size ∷ sizes) = size + total sizes
 
--- none is more than a frame's
+-- each is a frame's
 abbrev pub AreFrames : List ℕ → Type 0
 AreFrames [] = ⊤
-AreFrames (size ∷ sizes) = (size ≤ 280) × AreFrames sizes
+AreFrames (size ∷ sizes) = (0 < size) × (size ≤ 280) × AreFrames sizes
 
 -- the frames of these sizes, one after another in some bytes
 abbrev pub frames_in : List ℕ → List ℕ → List (List ℕ)

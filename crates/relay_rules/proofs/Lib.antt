@@ -1,3 +1,3 @@
-mod Numbering
-mod RouteLaws
+pub mod Numbering
+pub mod RouteLaws
 mod Routes

@@ -1,18 +1,16 @@
 -- The rules of a relay beside those of a router.
-use Rattle.std.proofs.Common.{◌≡◌, ◌∙◌, ◌<◌, ◌⊎◌, inl, inr, ℕ, zero, suc, ◌+◌, ◌==◌, ◌&&◌, ◌||◌, not, if◌then◌else◌, Bool, true, false, List, [], ◌∷◌, ◌++◌, length, map, filter, Some, None, refl, sym, ap, subst, arith}
-use Rattle.std.specs.List.{filter_map, list_any}
+use Rattle.std.proofs.Common.{◌≡◌, ◌∙◌, inl, inr, ℕ, ◌+◌, ◌==◌, ◌&&◌, ◌||◌, not, if◌then◌else◌, Bool, true, false, List, [], ◌∷◌, ◌++◌, length, map, filter, refl, sym, ap, arith}
+use Rattle.std.specs.List.{list_any}
 use Rattle.std.proofs.lemmas.Grind.{common_steps}
 use Rattle.std.proofs.lemmas.List.{append-nil, map-append}
 use Rattle.std.proofs.lemmas.List.Elements.{filter-append}
 use Rattle.mav_names.specs.declared.names.Name.{Name}
-use Rattle.mav_frame.specs.Packet.{Packet}
-use Rattle.mav_sign.specs.Kept.{Kept}
 use Rattle.link_table.specs.OpenLinks.{is_among}
 use Rattle.link_table.specs.Routing.{Learned, has_port, is_behind}
 use Rattle.link_table.proofs.Bits.{same_or}
 use Rattle.mav_router.specs.Journal.{Rules, is_unsigned, target_by}
-use Rattle.relay_rules.specs.Laws.{GoesAsRouted, IsPort, LearnsAsRouted, NeverBack, NeverTwice, names_at, nothing_opened, number_by, numbers_in}
-use Rattle.relay_rules.specs.States.{LinkState, RelayState, goes_to, taught}
+use Rattle.relay_rules.specs.Laws.{GoesAsRouted, LearnsAsRouted, NeverBack, NeverTwice, names_at, nothing_opened, numbers_in}
+use Rattle.relay_rules.specs.States.{RelayState}
 use Rattle.relay_rules.specs.Steps.{Event, Leads, Step, opens, closes, hears, refuses}
 
 same : (n : ℕ) → (n == n) ≡ true

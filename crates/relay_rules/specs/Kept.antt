@@ -1,5 +1,5 @@
 -- What a relay keeps of its state.
-use Rattle.std.specs.Prelude.{ℕ, ◌≡◌, ◌<◌, ◌≤◌, List, map, length, slice_get, Some}
+use Rattle.std.specs.Prelude.{ℕ, ◌≡◌, ◌<◌, ◌≤◌, List, map, slice_get, Some}
 use Rattle.mav_names.specs.declared.names.Name.{Name}
 use Rattle.mav_sign.specs.Kept.{Kept}
 use Rattle.link_table.specs.OpenLinks.{StandsFor, Words}

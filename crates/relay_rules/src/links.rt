@@ -1,5 +1,6 @@
 // The links of a relay.
 ghost use Rattle.std.specs.Prelude.{◌≡◌, ◌+◌, ◌<◌, ◌≤◌, ◌&&◌, [], ℕ, length, slice_get, Some, IfOk, OnOk, OnErr, IsTrue, ◌^◌, ◌++◌, ◌∷◌, true, false, vec_len, vec_capacity};
+ghost use Rattle.std.specs.List.{remove};
 ghost use Rattle.link_table.specs.OpenLinks.{has_link};
 ghost use Rattle.link_table.specs.Routing.{has_port};
 ghost use Rattle.mav_sign.specs.History.{is_admitted};
@@ -163,6 +164,8 @@ impl Links {
         requires few { length self.old.links < 32 }
         requires numbers { self.old.given + 1 < 2 ^ 64 }
         ensures number { result ≡ self.old.given + 1 }
+        ensures links { self.new.links ≡ self.old.links ++ (record { number = result; port = port }) ∷ [] }
+        ensures given { self.new.given ≡ result }
         ensures state { (state : RelayState) → Represents self.old state → Represents self.new (opened port state) }
     {
         self.given += 1;
@@ -175,7 +178,9 @@ impl Links {
     /// Closes the link with that index; each later link's index is one less.
     pub fn close(&mut self, index: usize)
         requires { index < length self.old.links }
-        ensures { (state : RelayState) → Represents self.old state → Represents self.new (closed index state) }
+        ensures links { self.new.links ≡ remove self.old.links index }
+        ensures given { self.new.given ≡ self.old.given }
+        ensures state { (state : RelayState) → Represents self.old state → Represents self.new (closed index state) }
     {
         let _link = self.links.remove(index);
         self.table.close(index as u8);
@@ -229,6 +234,8 @@ impl Links {
         ensures few { (k : ℕ) → length self.old.links ≤ k → has_link result.ways.bits k ≡ false }
         ensures state { (state : RelayState) → Represents self.old state
             → Represents self.new (heard index (is_admitted result.admit) frame.now.from self.new.kept state) }
+        ensures links { self.new.links ≡ self.old.links }
+        ensures given { self.new.given ≡ self.old.given }
     {
         let link = self.link(index);
         let is_open = rules.plain().has(link.port);
@@ -258,6 +265,8 @@ impl Links {
             → (k : ℕ) → k < length state.links → has_link result.bits k ≡ (is_admitted admit && goes_to rules.now frame.now (link_at state.links index) (link_at state.links k)) }
         ensures few { (k : ℕ) → length self.old.links ≤ k → has_link result.bits k ≡ false }
         ensures kept { self.new.kept ≡ self.old.kept }
+        ensures links { self.new.links ≡ self.old.links }
+        ensures given { self.new.given ≡ self.old.given }
         ensures state { (state : RelayState) → Represents self.old state
             → Represents self.new (heard index (is_admitted admit) frame.now.from self.old.kept state) }
     {
@@ -282,6 +291,8 @@ impl Links {
             → (k : ℕ) → k < length state.links → has_link result.bits k ≡ goes_to rules.now frame.now (link_at state.links index) (link_at state.links k) }
         ensures few { (k : ℕ) → length self.old.links ≤ k → has_link result.bits k ≡ false }
         ensures kept { self.new.kept ≡ self.old.kept }
+        ensures links { self.new.links ≡ self.old.links }
+        ensures given { self.new.given ≡ self.old.given }
         ensures state { (state : RelayState) → Represents self.old state
             → Represents self.new (heard index true frame.now.from self.old.kept state) }
     {

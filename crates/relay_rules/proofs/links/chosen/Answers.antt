@@ -1,4 +1,4 @@
-use Rattle.std.proofs.Common.{◌≡◌, ◌∙◌, ◌+◌, ap, sym, subst, get_or}
+use Rattle.std.proofs.Common.{◌∙◌, ◌+◌, sym, subst, get_or}
 use Rattle.link_table.specs.declared.link_set.LinkSet.{LinkSet}
 use Rattle.relay_rules.specs.Ways.{ChoosesOf}
 use Rattle.relay_rules.specs.declared.links.OpenLink.{OpenLink}

@@ -21,8 +21,8 @@ invariant_of-self c =
     let r = c.remove-link.ensures in
     (omega (arith, r.len, c.self.invariant.0), omega (arith, r.capacity, c.self.invariant.1), subst (AreNumbered c.self.inside.given) (sym r.items) (numbered_less c.self.inside.given c.args.index c.self.inside.links.items c.self.invariant.2))
 
-pub returns : goal.returns
-returns c = λ state r.
+pub returns-clause-state : goal.returns-clause-state
+returns-clause-state c = λ state r.
     let inside = c.self.inside in
     let view : LinksKept = record { given = inside.given; links = inside.links.items; words = inside.table; kept = inside.stamps } in
     let within = subst (λ (v : LinksKept). c.args.index < length v.links) (sym c.self.view_is) c.requires in

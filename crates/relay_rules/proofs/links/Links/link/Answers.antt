@@ -1,4 +1,4 @@
-use Rattle.std.proofs.Common.{◌∙◌, ◌≡◌, ◌<◌, length, ap, sym, subst}
+use Rattle.std.proofs.Common.{◌<◌, length, sym, subst}
 use Rattle.relay_rules.specs.Kept.{LinksKept}
 use Rattle.relay_rules.proofs.Routes.{element}
 use Rattle.relay_rules.proofs.links.Links.link.Goals as goal

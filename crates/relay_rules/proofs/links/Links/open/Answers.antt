@@ -1,6 +1,5 @@
-use Rattle.std.proofs.Common.{◌<◌, ◌+◌, ◌∷◌, [], arith, length, subst, sym}
+use Rattle.std.proofs.Common.{◌<◌, ◌+◌, arith, length, subst, sym}
 use Rattle.relay_rules.specs.Kept.{AreNumbered, LinksKept, Represents}
-use Rattle.relay_rules.specs.declared.links.OpenLink.{OpenLink}
 use Rattle.relay_rules.proofs.Numbering.{numbered_more}
 use Rattle.relay_rules.proofs.Routes.{opens}
 use Rattle.relay_rules.proofs.links.Links.open.Goals as goal

@@ -1,4 +1,4 @@
-use Rattle.std.proofs.Common.{◌<◌, ◌≡◌, ◌≤◌, ◌∙◌, List, Bool, true, arith, length, ap, subst, sym}
+use Rattle.std.proofs.Common.{◌<◌, ◌≤◌, ◌∙◌, List, Bool, true, arith, length, ap, subst, sym}
 use Rattle.mav_names.specs.declared.names.Name.{Name}
 use Rattle.mav_sign.specs.Kept.{Kept}
 use Rattle.relay_rules.specs.States.{heard}
