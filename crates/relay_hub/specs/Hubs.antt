@@ -45,12 +45,16 @@ tape_of index s = get_or s.tapes (place_of index s) (blank 0)
 abbrev pub opens : Tape → HubState → HubState
 opens tape s = record s { tapes = s.tapes ++ tape ∷ []; links = s.links ++ (length s.tapes + 1) ∷ [] }
 
+-- the open link with that index closes
+abbrev pub closes : ℕ → HubState → HubState
+closes index s = record s { links = remove s.links index }
+
 -- what happened, if something did
 abbrev pub happens : Option HubNews → HubState → HubState
 happens None s = s
 happens (Some (Opened port)) s = opens (blank port) s
 happens (Some (Refused port)) s = s
-happens (Some (Closed index why)) s = record s { links = remove s.links index }
+happens (Some (Closed index why)) s = closes index s
 happens (Some (Waits port)) s = s
 
 -- the open link with that index gives these bytes

@@ -20,10 +20,13 @@ no_seats = record { ports = []; stranger = None }
 abbrev pub port_of : List Tape → ℕ → ℕ
 port_of tapes number = (get_or tapes (number - 1) (blank 0)).port
 
+abbrev pub ports_of : HubState → List ℕ
+ports_of s = map (port_of s.tapes) s.links
+
 -- the same of a hub that tells its bytes
 abbrev pub seats_of : HubState → Seats
 seats_of s = record {
-  ports = map (port_of s.tapes) s.links;
+  ports = ports_of s;
   stranger = option_map (λ (d : Datagram). d.port) s.stranger;
 }
 

@@ -5,8 +5,17 @@
 //! of every hub how many links are open at which ports.
 #![tactic(auto)]
 
+mod happenings;
 mod hubs;
+mod mem_hub;
+mod mem_tape;
 mod news;
 
+pub use happenings::Happening;
 pub use hubs::Hub;
+pub use mem_hub::MemHub;
 pub use news::{HubNews, Stranger, Why};
+use std::alloc::AllocError;
+
+/// There was no memory.
+pub type NoMemory = AllocError;

@@ -1,0 +1,453 @@
+// A hub over memory, at which happens what its maker lists.
+ghost use Rattle.std.specs.Prelude.{◌≡◌, ◌+◌, ◌-◌, ◌++◌, ◌∷◌, ◌<◌, ◌≤◌, [], drop, get_or, length, min, take, vec_len, vec_capacity, IfOk, IfSome, Some};
+ghost use Rattle.relay_hub.specs.Hubs.{adopts, asks, blank, gives, happens, place_of, takes, tape_of};
+ghost use Rattle.relay_hub.specs.MemHubs.{after_next, after_read, after_stranger, after_write, front, hub_from_start, is_over, is_port, links_at, most_bytes, news_at, opening_at, next_news, next_stranger, piece_at, read_count, write_count};
+ghost use Rattle.relay_hub.specs.Seats.{IsNews, adopted_at, asked_at, has_room, may_adopt, port_of, ports_of, seats_of, told_at};
+
+use crate::mem_tape::MemTape;
+use crate::{Happening, Hub, HubNews, NoMemory, Stranger};
+use std::alloc::Global;
+use std::marker::Model;
+use std::time::Duration;
+
+const MOST_LINKS: usize = 32;
+
+const MOST_OF_A_PORT: usize = 8;
+
+// A datagram has at most so many bytes.
+const MOST_BYTES: usize = 65_536;
+
+/// A hub that tells its bytes. What is to happen does so in its order: `next` tells the news of it, reads and strangers
+/// give the bytes, and none of these sees what comes behind another's. What can't happen is passed over.
+pub struct MemHub {
+    tapes: Vec<MemTape>,
+    spares: Vec<MemTape>,
+    links: Vec<usize>,
+    asker: Option<u8>,
+    datagram: Vec<u8>,
+    script: Vec<Happening>,
+    step: usize,
+    bytes: Vec<u8>,
+    at: usize,
+    most: Vec<usize>,
+    writes: usize,
+}
+
+// By hand, so that whoever drops it proves one call.
+impl Drop for MemHub {
+    fn drop(self) {
+        let MemHub {
+            tapes: _tapes,
+            spares: _spares,
+            links: _links,
+            asker: _,
+            datagram: _datagram,
+            script: _script,
+            step: _,
+            bytes: _bytes,
+            at: _,
+            most: _most,
+            writes: _,
+        } = self;
+    }
+}
+
+impl Model for MemHub {
+    ghost use Rattle.std.specs.Prelude.{vec_len, vec_capacity};
+    ghost use Rattle.std.specs.Option.{option_map};
+    ghost use Rattle.relay_hub.specs.MemHubs.{MemHubState};
+    ghost use Rattle.relay_hub.specs.MemRooms.{HasRooms};
+
+    ghost Value = { MemHubState };
+
+    ghost view = { λ h. record {
+      hub = record {
+        tapes = h.tapes.items;
+        links = h.links.items;
+        stranger = option_map (λ port. record { port = port; bytes = h.datagram.items }) h.asker;
+      };
+      script = h.script.items;
+      step = h.step;
+      bytes = h.bytes.items;
+      at = h.at;
+      most = h.most.items;
+      writes = h.writes;
+    } };
+
+    ghost invariant = { λ h. HasRooms (record {
+      links = h.links.items;
+      tapes = vec_len h.tapes;
+      tape_room = vec_capacity h.tapes;
+      spares = vec_len h.spares;
+      link_room = vec_capacity h.links;
+      asker = h.asker;
+      datagram = vec_len h.datagram;
+      datagram_room = vec_capacity h.datagram;
+      script = vec_len h.script;
+      step = h.step;
+      bytes = vec_len h.bytes;
+      at = h.at;
+    }) };
+}
+
+// Tapes for so many links.
+fn spare_tapes(alloc: Global, count: usize) -> Result<Vec<MemTape>, NoMemory>
+    ensures { IfOk result (λ tapes. vec_len tapes ≡ count) }
+{
+    let mut tapes = Vec::with_capacity(alloc, count)?;
+    for _tape in 0..count {
+        let tape = MemTape::new(alloc)?;
+        tapes.push_reserved(tape);
+    }
+    Ok(tapes)
+}
+
+// A link opens, the last one, with the next number, and has given these bytes.
+fn open(
+    tapes: &mut Vec<MemTape>,
+    spares: &mut Vec<MemTape>,
+    links: &mut Vec<usize>,
+    port: u8,
+    given: &[u8],
+)
+    requires spare { 0 < vec_len spares.old }
+    requires room { vec_len tapes.old < vec_capacity tapes.old }
+    requires few { vec_len links.old < vec_capacity links.old }
+    requires short { length given.now ≤ 65536 }
+    ensures tapes { tapes.new.items ≡ tapes.old.items ++ record (blank port) { given = given.now } ∷ [] }
+    ensures links { links.new.items ≡ links.old.items ++ (vec_len tapes.old + 1) ∷ [] }
+    ensures spares { vec_len spares.new + 1 ≡ vec_len spares.old }
+    ensures tape_room { vec_capacity tapes.new ≡ vec_capacity tapes.old }
+    ensures link_room { vec_capacity links.new ≡ vec_capacity links.old }
+{
+    let number = tapes.len() + 1;
+    let mut tape = spares.pop().unwrap();
+    tape.begin(port);
+    tape.give(given);
+    tapes.push_reserved(tape);
+    links.push_reserved(number);
+}
+
+fn is_port(port: u8) -> bool
+    ensures { result ≡ is_port port }
+{
+    1 <= port && port <= 8
+}
+
+impl MemHub {
+    /// At first no link is open. What is to happen does so as it is listed, with these bytes; each write takes as many
+    /// bytes at most as is listed, and all of them once nothing more is. It allocates all its memory here.
+    pub fn new(
+        alloc: Global,
+        script: Vec<Happening>,
+        bytes: Vec<u8>,
+        most: Vec<usize>,
+    ) -> Result<MemHub, NoMemory>
+        ensures start { IfOk result (λ hub. hub ≡ hub_from_start script.items bytes.items most.items) }
+    {
+        let tapes = Vec::with_capacity(alloc, script.len())?;
+        let spares = spare_tapes(alloc, script.len())?;
+        let links = Vec::with_capacity(alloc, MOST_LINKS)?;
+        let datagram = Vec::with_capacity(alloc, MOST_BYTES)?;
+        Ok(MemHub {
+            tapes,
+            spares,
+            links,
+            asker: None,
+            datagram,
+            script,
+            step: 0,
+            bytes,
+            at: 0,
+            most,
+            writes: 0,
+        })
+    }
+
+    // The port of the link with that number.
+    fn port_of(&self, number: usize) -> u8
+        ensures { result ≡ port_of self.now.hub.tapes number }
+    {
+        match self.tapes.get(number.saturating_sub(1)) {
+            Some(tape) => tape.port(),
+            None => 0,
+        }
+    }
+
+    // How many open links the port has.
+    fn links_at(&self, port: u8) -> usize
+        ensures { result ≡ links_at port self.now.hub }
+    {
+        self.links
+            .iter()
+            .filter(|number| self.port_of(**number) == port)
+            .count()
+    }
+
+    fn has_room(&self, port: u8) -> bool
+        ensures { result ≡ has_room port (ports_of self.now.hub) }
+    {
+        self.links.len() < MOST_LINKS && self.links_at(port) < MOST_OF_A_PORT
+    }
+
+    // What is to happen next.
+    fn front(&self) -> Option<Happening>
+        ensures { result ≡ front self.now }
+    {
+        self.script.get(self.step).copied()
+    }
+
+    // A link that opens at this port does, or is refused.
+    fn opening(&self, port: u8) -> HubNews
+        ensures { result ≡ opening_at port (ports_of self.now.hub) }
+    {
+        if self.has_room(port) {
+            HubNews::Opened(port)
+        } else {
+            HubNews::Refused(port)
+        }
+    }
+
+    // The news of what is to happen, if it is news and can happen.
+    fn news(&self, happening: Happening) -> Option<HubNews>
+        ensures { result ≡ news_at happening (ports_of self.now.hub) }
+    {
+        match happening {
+            Happening::Opens(port) => is_port(port).then_some(self.opening(port)),
+            Happening::Closes(index, why) => {
+                (index < self.links.len()).then_some(HubNews::Closed(index, why))
+            }
+            Happening::Fails(port) => is_port(port).then_some(HubNews::Waits(port)),
+            Happening::Gives(_, _) | Happening::Asks(_, _) => None,
+        }
+    }
+
+    // Whether it is over once it was told, or passed over.
+    fn is_over(&self, happening: Happening) -> bool
+        ensures { result ≡ is_over happening (ports_of self.now.hub) }
+    {
+        match happening {
+            Happening::Opens(_) | Happening::Closes(_, _) | Happening::Fails(_) => true,
+            Happening::Gives(index, count) => count == 0 || index >= self.links.len(),
+            Happening::Asks(port, _) => !is_port(port),
+        }
+    }
+
+    // What is to happen does, and is told.
+    fn tell(&mut self, news: HubNews)
+        requires news { IsNews news (ports_of self.old.hub) }
+        requires step { self.old.step < length self.old.script }
+        ensures { self.new ≡ record self.old {
+          hub = happens (Some news) self.old.hub;
+          step = self.old.step + 1;
+        } }
+    {
+        self.step += 1;
+        match news {
+            HubNews::Opened(port) => open(
+                &mut self.tapes,
+                &mut self.spares,
+                &mut self.links,
+                port,
+                &[],
+            ),
+            HubNews::Closed(index, _) => {
+                let _number = self.links.remove(index);
+            }
+            HubNews::Refused(_) | HubNews::Waits(_) => {}
+        }
+    }
+
+    // How many bytes an open link still gives before anything else happens.
+    fn piece(&self, index: usize) -> Option<usize>
+        ensures { result ≡ piece_at index (front self.now) }
+    {
+        match self.front() {
+            Some(Happening::Gives(link, count)) if link == index => Some(count),
+            _ => None,
+        }
+    }
+
+    // Where the tape of an open link is.
+    fn place(&self, index: usize) -> usize
+        requires { index < length (ports_of self.now.hub) }
+        ensures place { result ≡ place_of index self.now.hub }
+        ensures within { result < length self.now.hub.tapes }
+    {
+        self.links[index].saturating_sub(1)
+    }
+
+    // How many bytes are left that the link with this tape may give.
+    fn left_to_give(&self, place: usize) -> usize
+        requires { place < length self.now.hub.tapes }
+        ensures left { result ≡ min (length self.now.bytes - self.now.at)
+            (most_bytes - length (get_or self.now.hub.tapes place (blank 0)).given) }
+        ensures bytes { self.now.at + result ≤ length self.now.bytes }
+    {
+        let left = self.bytes.len() - self.at;
+        left.min(self.tapes[place].left_to_give())
+    }
+
+    // How many bytes the next write takes at most.
+    fn most_to_write(&self, offered: usize) -> usize
+        ensures { result ≡ get_or self.now.most self.now.writes offered }
+    {
+        match self.most.get(self.writes) {
+            Some(most) => *most,
+            None => offered,
+        }
+    }
+
+    // The datagram that is next, as much of it as there is room for.
+    fn next_stranger(&self, room: usize) -> Option<Stranger>
+        ensures stranger { result ≡ next_stranger room self.now }
+        ensures bytes { IfSome result (λ s. self.now.at + s.count ≤ length self.now.bytes) }
+        ensures room { IfSome result (λ s. s.count ≤ room) }
+        ensures short { IfSome result (λ s. s.count ≤ 65536) }
+        ensures port { IfSome result (λ s. (1 ≤ s.port) × (s.port ≤ 8)) }
+        ensures step { IfSome result (λ s. self.now.step < length self.now.script) }
+    {
+        let left = self.bytes.len() - self.at;
+        match self.front() {
+            Some(Happening::Asks(port, count)) if is_port(port) => Some(Stranger {
+                port,
+                count: count.min(room.min(left.min(MOST_BYTES))),
+            }),
+            _ => None,
+        }
+    }
+}
+
+impl Hub for MemHub {
+    ghost use Rattle.relay_hub.specs.Seats.{seats_of};
+
+    ghost seats = { λ h. seats_of h.hub };
+
+    ghost state = { λ h. Some h.hub };
+
+    fn wait(&mut self, _most: Duration)
+        ensures unchanged { self.new ≡ self.old }
+    {
+    }
+
+    fn next(&mut self) -> Option<HubNews>
+        // What every hub promises.
+        ensures news { IfSome result (λ news. IsNews news (ports_of self.old.hub)) }
+        ensures seats { seats_of self.new.hub ≡ told_at result (seats_of self.old.hub) }
+        ensures state { self.new.hub ≡ happens result self.old.hub }
+
+        // The whole result, and the state afterwards.
+        ensures answer { result ≡ next_news self.old }
+        ensures after { self.new ≡ after_next self.old }
+    {
+        let happening = self.front()?;
+        let news = self.news(happening);
+        match news {
+            Some(news) => self.tell(news),
+            None if self.is_over(happening) => self.step += 1,
+            None => {}
+        }
+        news
+    }
+
+    fn read(&mut self, index: usize, buf: &mut [u8]) -> usize
+        requires { index < length (ports_of self.old.hub) }
+        // What every hub promises.
+        ensures within { result ≤ length buf.new }
+        ensures seats { seats_of self.new.hub ≡ seats_of self.old.hub }
+        ensures state { self.new.hub ≡ gives index (take result buf.new) self.old.hub }
+
+        // The whole result, and the state afterwards.
+        ensures answer { result ≡ read_count index (length buf.old) self.old }
+        ensures after { self.new ≡ after_read index result self.old }
+        ensures buffer { buf.new ≡ take result (drop self.old.at self.old.bytes) ++ drop result buf.old }
+    {
+        let piece = self.piece(index);
+        let place = self.place(index);
+        let most = self.left_to_give(place).min(buf.len());
+        let count = piece.unwrap_or(0).min(most);
+        let at = self.at;
+        buf[..count].copy_from_slice(&self.bytes[at..at + count]);
+        self.tapes[place].give(&self.bytes[at..at + count]);
+        self.at += count;
+        if let Some(piece) = piece {
+            self.script[self.step] = Happening::Gives(index, piece - count);
+        }
+        count
+    }
+
+    fn write(&mut self, index: usize, bytes: &[u8]) -> usize
+        requires { index < length (ports_of self.old.hub) }
+        // What every hub promises.
+        ensures within { result ≤ length bytes.now }
+        ensures seats { seats_of self.new.hub ≡ seats_of self.old.hub }
+        ensures state { self.new.hub ≡ takes index (take result bytes.now) self.old.hub }
+
+        // The whole result, and the state afterwards.
+        ensures answer { result ≡ write_count index (length bytes.now) self.old }
+        ensures after { self.new ≡ after_write index (take result bytes.now) self.old }
+    {
+        let place = self.place(index);
+        let most = self.most_to_write(bytes.len());
+        let count = bytes.len().min(most).min(self.tapes[place].left_to_take());
+        self.tapes[place].take(&bytes[..count]);
+        if self.writes < self.most.len() {
+            self.writes += 1;
+        }
+        count
+    }
+
+    fn stranger(&mut self, buf: &mut [u8]) -> Option<Stranger>
+        // What every hub promises.
+        ensures port { IfSome result (λ s. (1 ≤ s.port) × (s.port ≤ 8)) }
+        ensures within { IfSome result (λ s. s.count ≤ length buf.new) }
+        ensures seats { seats_of self.new.hub ≡ asked_at result (seats_of self.old.hub) }
+        ensures state { self.new.hub ≡ asks result buf.new self.old.hub }
+
+        // The whole result, and the state afterwards.
+        ensures answer { result ≡ next_stranger (length buf.old) self.old }
+        ensures after { self.new ≡ after_stranger result self.old }
+    {
+        self.asker = None;
+        let stranger = self.next_stranger(buf.len())?;
+        let count = stranger.count;
+        let at = self.at;
+        buf[..count].copy_from_slice(&self.bytes[at..at + count]);
+        self.datagram.clear();
+        self.datagram
+            .extend_from_slice(&self.bytes[at..at + count])
+            .unwrap();
+        self.asker = Some(stranger.port);
+        self.at += count;
+        self.step += 1;
+        Some(stranger)
+    }
+
+    fn adopt(&mut self, from: usize) -> bool
+        // What every hub promises.
+        ensures answer { result ≡ may_adopt (seats_of self.old.hub) }
+        ensures seats { seats_of self.new.hub ≡ adopted_at result (seats_of self.old.hub) }
+        ensures state { self.new.hub ≡ adopts result from self.old.hub }
+
+        // Nothing else changes.
+        ensures after { self.new ≡ record self.old { hub = adopts result from self.old.hub } }
+    {
+        let Some(port) = self.asker.take() else {
+            return false;
+        };
+        if !self.has_room(port) {
+            return false;
+        }
+        let from = from.min(self.datagram.len());
+        open(
+            &mut self.tapes,
+            &mut self.spares,
+            &mut self.links,
+            port,
+            &self.datagram[from..],
+        );
+        true
+    }
+
+    ghost agrees = { λ hub. refl };
+}
