@@ -44,13 +44,16 @@ IsNews (Refused port) ports = IsPort port × (has_room port ports ≡ false)
 IsNews (Closed index why) ports = index < length ports
 IsNews (Waits port) ports = IsPort port
 
--- after what happened, if something did
+-- the ports of the open links after what happened, if something did
+abbrev pub ports_told : Option HubNews → List ℕ → List ℕ
+ports_told None ports = ports
+ports_told (Some (Opened port)) ports = ports ++ port ∷ []
+ports_told (Some (Refused port)) ports = ports
+ports_told (Some (Closed index why)) ports = remove ports index
+ports_told (Some (Waits port)) ports = ports
+
 abbrev pub told_at : Option HubNews → Seats → Seats
-told_at None seats = seats
-told_at (Some (Opened port)) seats = record seats { ports = seats.ports ++ port ∷ [] }
-told_at (Some (Refused port)) seats = seats
-told_at (Some (Closed index why)) seats = record seats { ports = remove seats.ports index }
-told_at (Some (Waits port)) seats = seats
+told_at news seats = record seats { ports = ports_told news seats.ports }
 
 -- after a stranger's datagram, if one came
 abbrev pub asked_at : Option Stranger → Seats → Seats

@@ -237,7 +237,7 @@ impl MemHub {
     fn tell(&mut self, news: HubNews)
         requires news { IsNews news (ports_of self.old.hub) }
         requires step { self.old.step < length self.old.script }
-        ensures { self.new ≡ record self.old {
+        ensures state { self.new ≡ record self.old {
           hub = happens (Some news) self.old.hub;
           step = self.old.step + 1;
         } }
