@@ -1,5 +1,5 @@
 -- What the ports of a relay did: the links that were ever opened, with the bytes that each gave and took.
-use Rattle.std.specs.Prelude.{ℕ, ◌+◌, ◌-◌, Bool, true, false, List, [], ◌∷◌, ◌++◌, length, take, drop, get_or, slice_set, None, Some}
+use Rattle.std.specs.Prelude.{ℕ, ◌+◌, ◌-◌, ◌<◌, Bool, true, false, List, [], ◌∷◌, ◌++◌, length, take, drop, get_or, slice_set, None, Some}
 use Rattle.std.specs.List.{remove}
 use Rattle.std.specs.Option.{option_map, unwrap_or}
 use Rattle.std.specs.declared.option.Option.{Option}
@@ -40,6 +40,10 @@ place_of index s = get_or s.links index 0 - 1
 
 abbrev pub tape_of : ℕ → HubState → Tape
 tape_of index s = get_or s.tapes (place_of index s) (blank 0)
+
+-- each link that is open was opened
+abbrev pub AreOpened : HubState → Type 0
+AreOpened s = (i : ℕ) → i < length s.links → place_of i s < length s.tapes
 
 -- a link opens, the last one, with the next number
 abbrev pub opens : Tape → HubState → HubState

@@ -1,5 +1,5 @@
 -- A hub over memory: what is to happen at it, what its next call returns, and what it holds then.
-use Rattle.std.specs.Prelude.{ℕ, ◌+◌, ◌-◌, ◌==◌, ◌||◌, not, nat_lt, nat_le, ◌&&◌, min, count_by, Bool, true, false, if◌then◌else◌, List, [], ◌∷◌, length, take, drop, get_or, slice_get, slice_set, None, Some}
+use Rattle.std.specs.Prelude.{ℕ, ◌+◌, ◌-◌, ◌==◌, ◌||◌, not, nat_lt, nat_le, ◌&&◌, min, count_by, Bool, true, false, if◌then◌else◌, List, [], ◌∷◌, ◌++◌, length, take, drop, get_or, slice_get, slice_set, None, Some}
 use Rattle.std.specs.Option.{option_map_or}
 use Rattle.std.specs.declared.option.Option.{Option}
 use Rattle.relay_hub.specs.declared.happenings.Happening.{Happening}
@@ -7,7 +7,7 @@ use Rattle.relay_hub.specs.declared.happenings.Happening.TheVariants.{Opens, Clo
 use Rattle.relay_hub.specs.declared.news.HubNews.{HubNews}
 use Rattle.relay_hub.specs.declared.news.HubNews.TheVariants.{Opened, Refused, Closed, Waits}
 use Rattle.relay_hub.specs.declared.news.Stranger.{Stranger}
-use Rattle.relay_hub.specs.Hubs.{HubState, adopts, asks, gives, happens, nothing_happened, takes, tape_of}
+use Rattle.relay_hub.specs.Hubs.{HubState, adopts, asks, blank, gives, happens, nothing_happened, takes, tape_of}
 use Rattle.relay_hub.specs.Seats.{has_room, port_of, ports_of}
 
 pub record MemHubState : Type 0 where
@@ -80,7 +80,14 @@ piece_at index _ = None
 abbrev pub read_count : ℕ → ℕ → MemHubState → ℕ
 read_count index room s =
     min (option_map_or (λ n. n) (piece_at index (front s)) 0)
-        (min room (min (length s.bytes - s.at) (most_bytes - length (tape_of index s.hub).given)))
+    (min room (min (length s.bytes - s.at) (most_bytes - length (tape_of index s.hub).given)))
+
+-- the link with the tape at that place gives so many of the next bytes
+abbrev pub given_at : ℕ → ℕ → MemHubState → MemHubState
+given_at place count s =
+    let tape = get_or s.hub.tapes place (blank 0) in
+    let longer = record tape { given = tape.given ++ take count (drop s.at s.bytes) } in
+    record s { hub = record s.hub { tapes = slice_set s.hub.tapes place longer }; at = s.at + count }
 
 abbrev pub after_read : ℕ → ℕ → MemHubState → MemHubState
 after_read index count s = record s {

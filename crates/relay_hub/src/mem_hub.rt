@@ -1,11 +1,11 @@
 // A hub over memory, at which happens what its maker lists.
-ghost use Rattle.std.specs.Prelude.{◌≡◌, ◌+◌, ◌-◌, ◌++◌, ◌∷◌, ◌<◌, ◌≤◌, [], drop, get_or, length, min, take, vec_len, vec_capacity, IfOk, IfSome, Some};
-ghost use Rattle.relay_hub.specs.Hubs.{adopts, asks, blank, gives, happens, place_of, takes, tape_of};
-ghost use Rattle.relay_hub.specs.MemHubs.{after_next, after_read, after_stranger, after_write, front, hub_from_start, is_over, is_port, links_at, most_bytes, news_at, opening_at, next_news, next_stranger, piece_at, read_count, write_count};
-ghost use Rattle.relay_hub.specs.Seats.{IsNews, adopted_at, asked_at, has_room, may_adopt, port_of, ports_of, seats_of, told_at};
+ghost use Rattle.std.specs.Prelude.{◌≡◌, ◌+◌, ◌-◌, ◌++◌, ◌∷◌, ◌<◌, ◌≤◌, [], ℕ, List, drop, get_or, length, min, take, vec_len, vec_capacity, IfOk, IfSome, Some};
+ghost use Rattle.relay_hub.specs.Hubs.{AreOpened, adopts, asks, blank, gives, happens, place_of, takes, tape_of};
+ghost use Rattle.relay_hub.specs.MemHubs.{after_next, after_read, after_stranger, after_write, front, given_at, hub_from_start, is_over, is_port, links_at, most_bytes, news_at, opening_at, next_news, next_stranger, piece_at, read_count, write_count};
+ghost use Rattle.relay_hub.specs.Seats.{IsNews, adopted_at, asked_at, has_room, may_adopt, port_of, ports_of, ports_told, seats_of, told_at};
 
 use crate::mem_tape::MemTape;
-use crate::{Happening, Hub, HubNews, NoMemory, Stranger};
+use crate::{Happening, Hub, HubNews, NoMemory, Stranger, Why};
 use std::alloc::Global;
 use std::marker::Model;
 use std::time::Duration;
@@ -134,6 +134,17 @@ fn is_port(port: u8) -> bool
     1 <= port && port <= 8
 }
 
+fn waiting_news(port: u8) -> Option<HubNews>
+    ensures result { result ≡ news_at (Happening.Fails port) [] }
+    ensures news { (ports : List ℕ) → IfSome result (λ news. IsNews news ports) }
+{
+    if is_port(port) {
+        Some(HubNews::Waits(port))
+    } else {
+        None
+    }
+}
+
 impl MemHub {
     /// At first no link is open. What is to happen does so as it is listed, with these bytes; each write takes as many
     /// bytes at most as is listed, and all of them once nothing more is. It allocates all its memory here.
@@ -192,14 +203,18 @@ impl MemHub {
 
     // What is to happen next.
     fn front(&self) -> Option<Happening>
-        ensures { result ≡ front self.now }
+        ensures front { result ≡ front self.now }
+        ensures step { IfSome result (λ _. self.now.step < length self.now.script) }
     {
         self.script.get(self.step).copied()
     }
 
     // A link that opens at this port does, or is refused.
     fn opening(&self, port: u8) -> HubNews
-        ensures { result ≡ opening_at port (ports_of self.now.hub) }
+        requires from { 1 ≤ port }
+        requires to { port ≤ 8 }
+        ensures opening { result ≡ opening_at port (ports_of self.now.hub) }
+        ensures news { IsNews result (ports_of self.now.hub) }
     {
         if self.has_room(port) {
             HubNews::Opened(port)
@@ -210,15 +225,36 @@ impl MemHub {
 
     // The news of what is to happen, if it is news and can happen.
     fn news(&self, happening: Happening) -> Option<HubNews>
-        ensures { result ≡ news_at happening (ports_of self.now.hub) }
+        ensures result { result ≡ news_at happening (ports_of self.now.hub) }
+        ensures news { IfSome result (λ news. IsNews news (ports_of self.now.hub)) }
     {
         match happening {
-            Happening::Opens(port) => is_port(port).then_some(self.opening(port)),
-            Happening::Closes(index, why) => {
-                (index < self.links.len()).then_some(HubNews::Closed(index, why))
-            }
-            Happening::Fails(port) => is_port(port).then_some(HubNews::Waits(port)),
+            Happening::Opens(port) => self.opening_news(port),
+            Happening::Closes(index, why) => self.closing_news(index, why),
+            Happening::Fails(port) => waiting_news(port),
             Happening::Gives(_, _) | Happening::Asks(_, _) => None,
+        }
+    }
+
+    fn opening_news(&self, port: u8) -> Option<HubNews>
+        ensures result { result ≡ news_at (Happening.Opens port) (ports_of self.now.hub) }
+        ensures news { IfSome result (λ news. IsNews news (ports_of self.now.hub)) }
+    {
+        if is_port(port) {
+            Some(self.opening(port))
+        } else {
+            None
+        }
+    }
+
+    fn closing_news(&self, index: usize, why: Why) -> Option<HubNews>
+        ensures result { result ≡ news_at (Happening.Closes index why) (ports_of self.now.hub) }
+        ensures news { IfSome result (λ news. IsNews news (ports_of self.now.hub)) }
+    {
+        if index < self.links.len() {
+            Some(HubNews::Closed(index, why))
+        } else {
+            None
         }
     }
 
@@ -233,14 +269,15 @@ impl MemHub {
         }
     }
 
-    // What is to happen does, and is told.
-    fn tell(&mut self, news: HubNews)
+    // What is to happen does.
+    fn advance(&mut self, news: HubNews)
         requires news { IsNews news (ports_of self.old.hub) }
         requires step { self.old.step < length self.old.script }
         ensures state { self.new ≡ record self.old {
           hub = happens (Some news) self.old.hub;
           step = self.old.step + 1;
         } }
+        ensures opened { AreOpened self.old.hub }
     {
         self.step += 1;
         match news {
@@ -258,9 +295,129 @@ impl MemHub {
         }
     }
 
+    // What is to happen does, and is told.
+    fn tell(&mut self, news: HubNews)
+        requires news { IsNews news (ports_of self.old.hub) }
+        requires step { self.old.step < length self.old.script }
+        ensures state { self.new ≡ record self.old {
+          hub = happens (Some news) self.old.hub;
+          step = self.old.step + 1;
+        } }
+        ensures ports { ports_of self.new.hub ≡ ports_told (Some news) (ports_of self.old.hub) }
+    {
+        self.advance(news);
+    }
+
+    // What is to happen is passed over.
+    fn pass_over(&mut self)
+        requires { self.old.step < length self.old.script }
+        ensures { self.new ≡ record self.old { step = self.old.step + 1 } }
+    {
+        self.step += 1;
+    }
+
+    // So many of the next bytes are given by the link with this tape.
+    fn give(&mut self, place: usize, count: usize)
+        requires within { place < length self.old.hub.tapes }
+        requires bytes { self.old.at + count ≤ length self.old.bytes }
+        requires room { length (get_or self.old.hub.tapes place (blank 0)).given + count ≤ 65536 }
+        ensures { self.new ≡ given_at place count self.old }
+    {
+        let at = self.at;
+        self.tapes[place].give(&self.bytes[at..at + count]);
+        self.at += count;
+    }
+
+    // The next bytes of an open link.
+    fn give_next(&mut self, index: usize, buf: &mut [u8]) -> usize
+        requires { index < length (ports_of self.old.hub) }
+        ensures within { result ≤ length buf.new }
+        ensures state { self.new.hub ≡ gives index (take result buf.new) self.old.hub }
+        ensures answer { result ≡ read_count index (length buf.old) self.old }
+        ensures after { self.new ≡ after_read index result self.old }
+        ensures buffer { buf.new ≡ take result (drop self.old.at self.old.bytes) ++ drop result buf.old }
+    {
+        let piece = self.piece(index);
+        let place = self.place(index);
+        let most = buf.len().min(self.left_to_give(place));
+        let count = piece.unwrap_or(0).min(most);
+        let at = self.at;
+        buf[..count].copy_from_slice(&self.bytes[at..at + count]);
+        self.give(place, count);
+        if let Some(piece) = piece {
+            self.script[self.step] = Happening::Gives(index, piece - count);
+        }
+        count
+    }
+
+    // An open link takes bytes.
+    fn take_next(&mut self, index: usize, bytes: &[u8]) -> usize
+        requires { index < length (ports_of self.old.hub) }
+        ensures within { result ≤ length bytes.now }
+        ensures state { self.new.hub ≡ takes index (take result bytes.now) self.old.hub }
+        ensures answer { result ≡ write_count index (length bytes.now) self.old }
+        ensures after { self.new ≡ after_write index (take result bytes.now) self.old }
+    {
+        let place = self.place(index);
+        let most = self.most_to_write(bytes.len());
+        let count = bytes.len().min(most.min(self.tapes[place].left_to_take()));
+        self.tapes[place].take(&bytes[..count]);
+        if self.writes < self.most.len() {
+            self.writes += 1;
+        }
+        count
+    }
+
+    // The datagram that is next.
+    fn hear_next(&mut self, buf: &mut [u8]) -> Option<Stranger>
+        ensures port { IfSome result (λ s. (1 ≤ s.port) × (s.port ≤ 8)) }
+        ensures within { IfSome result (λ s. s.count ≤ length buf.new) }
+        ensures state { self.new.hub ≡ asks result buf.new self.old.hub }
+        ensures answer { result ≡ next_stranger (length buf.old) self.old }
+        ensures after { self.new ≡ after_stranger result self.old }
+    {
+        self.asker = None;
+        let stranger = self.next_stranger(buf.len())?;
+        let count = stranger.count;
+        let at = self.at;
+        buf[..count].copy_from_slice(&self.bytes[at..at + count]);
+        self.datagram.clear();
+        self.datagram
+            .extend_from_slice(&self.bytes[at..at + count])
+            .unwrap();
+        self.asker = Some(stranger.port);
+        self.at += count;
+        self.step += 1;
+        Some(stranger)
+    }
+
+    // The stranger becomes a link, if there is room.
+    fn take_in(&mut self, from: usize) -> bool
+        ensures answer { result ≡ may_adopt (seats_of self.old.hub) }
+        ensures after { self.new ≡ record self.old { hub = adopts result from self.old.hub } }
+        ensures opened { AreOpened self.old.hub }
+    {
+        let Some(port) = self.asker.take() else {
+            return false;
+        };
+        if !self.has_room(port) {
+            return false;
+        }
+        let from = from.min(self.datagram.len());
+        open(
+            &mut self.tapes,
+            &mut self.spares,
+            &mut self.links,
+            port,
+            &self.datagram[from..],
+        );
+        true
+    }
+
     // How many bytes an open link still gives before anything else happens.
     fn piece(&self, index: usize) -> Option<usize>
-        ensures { result ≡ piece_at index (front self.now) }
+        ensures piece { result ≡ piece_at index (front self.now) }
+        ensures step { IfSome result (λ _. self.now.step < length self.now.script) }
     {
         match self.front() {
             Some(Happening::Gives(link, count)) if link == index => Some(count),
@@ -283,6 +440,7 @@ impl MemHub {
         ensures left { result ≡ min (length self.now.bytes - self.now.at)
             (most_bytes - length (get_or self.now.hub.tapes place (blank 0)).given) }
         ensures bytes { self.now.at + result ≤ length self.now.bytes }
+        ensures room { length (get_or self.now.hub.tapes place (blank 0)).given + result ≤ 65536 }
     {
         let left = self.bytes.len() - self.at;
         left.min(self.tapes[place].left_to_give())
@@ -327,8 +485,7 @@ impl Hub for MemHub {
 
     fn wait(&mut self, _most: Duration)
         ensures unchanged { self.new ≡ self.old }
-    {
-    }
+    {}
 
     fn next(&mut self) -> Option<HubNews>
         // What every hub promises.
@@ -344,7 +501,7 @@ impl Hub for MemHub {
         let news = self.news(happening);
         match news {
             Some(news) => self.tell(news),
-            None if self.is_over(happening) => self.step += 1,
+            None if self.is_over(happening) => self.pass_over(),
             None => {}
         }
         news
@@ -362,18 +519,7 @@ impl Hub for MemHub {
         ensures after { self.new ≡ after_read index result self.old }
         ensures buffer { buf.new ≡ take result (drop self.old.at self.old.bytes) ++ drop result buf.old }
     {
-        let piece = self.piece(index);
-        let place = self.place(index);
-        let most = self.left_to_give(place).min(buf.len());
-        let count = piece.unwrap_or(0).min(most);
-        let at = self.at;
-        buf[..count].copy_from_slice(&self.bytes[at..at + count]);
-        self.tapes[place].give(&self.bytes[at..at + count]);
-        self.at += count;
-        if let Some(piece) = piece {
-            self.script[self.step] = Happening::Gives(index, piece - count);
-        }
-        count
+        self.give_next(index, buf)
     }
 
     fn write(&mut self, index: usize, bytes: &[u8]) -> usize
@@ -387,14 +533,7 @@ impl Hub for MemHub {
         ensures answer { result ≡ write_count index (length bytes.now) self.old }
         ensures after { self.new ≡ after_write index (take result bytes.now) self.old }
     {
-        let place = self.place(index);
-        let most = self.most_to_write(bytes.len());
-        let count = bytes.len().min(most).min(self.tapes[place].left_to_take());
-        self.tapes[place].take(&bytes[..count]);
-        if self.writes < self.most.len() {
-            self.writes += 1;
-        }
-        count
+        self.take_next(index, bytes)
     }
 
     fn stranger(&mut self, buf: &mut [u8]) -> Option<Stranger>
@@ -408,19 +547,7 @@ impl Hub for MemHub {
         ensures answer { result ≡ next_stranger (length buf.old) self.old }
         ensures after { self.new ≡ after_stranger result self.old }
     {
-        self.asker = None;
-        let stranger = self.next_stranger(buf.len())?;
-        let count = stranger.count;
-        let at = self.at;
-        buf[..count].copy_from_slice(&self.bytes[at..at + count]);
-        self.datagram.clear();
-        self.datagram
-            .extend_from_slice(&self.bytes[at..at + count])
-            .unwrap();
-        self.asker = Some(stranger.port);
-        self.at += count;
-        self.step += 1;
-        Some(stranger)
+        self.hear_next(buf)
     }
 
     fn adopt(&mut self, from: usize) -> bool
@@ -432,22 +559,8 @@ impl Hub for MemHub {
         // Nothing else changes.
         ensures after { self.new ≡ record self.old { hub = adopts result from self.old.hub } }
     {
-        let Some(port) = self.asker.take() else {
-            return false;
-        };
-        if !self.has_room(port) {
-            return false;
-        }
-        let from = from.min(self.datagram.len());
-        open(
-            &mut self.tapes,
-            &mut self.spares,
-            &mut self.links,
-            port,
-            &self.datagram[from..],
-        );
-        true
+        self.take_in(from)
     }
 
-    ghost agrees = { λ hub. refl };
+    ghost agrees = { λ hub i. seats_of hub.hub };
 }

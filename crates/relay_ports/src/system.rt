@@ -56,12 +56,23 @@ fn ports_of(rt: &HostRuntime, targets: Vec<Target>) -> io::Result<Vec<Port>> {
     Ok(ports)
 }
 
+// Where the port with that number stands.
+fn index_of(number: u8) -> usize {
+    usize::from(number).saturating_sub(1)
+}
+
 // Something may have come at a port or at a link.
 fn wake(ports: &mut [Port], slots: &mut Slots, token: usize) {
     if token >= MOST_PORTS {
         slots.wake(token - MOST_PORTS);
     } else if let Some(port) = ports.get_mut(token) {
         port.is_ready = true;
+    }
+}
+
+fn wake_all(events: &Events, ports: &mut [Port], slots: &mut Slots) {
+    for event in events {
+        wake(ports, slots, event.token().0);
     }
 }
 
@@ -106,10 +117,7 @@ impl System {
             most
         };
         let _ = self.poll.poll(&mut self.events, Some(most));
-        for event in &self.events {
-            let token: usize = event.token().into();
-            wake(&mut self.ports, &mut self.slots, token);
-        }
+        wake_all(&self.events, &mut self.ports, &mut self.slots);
         self.wake_files(wires);
     }
 
@@ -149,15 +157,10 @@ impl System {
         None
     }
 
-    fn port(&mut self, number: u8) -> Option<&mut Port> {
-        self.ports.get_mut(usize::from(number).saturating_sub(1))
-    }
-
     // Its port may open another one.
     fn release(&mut self, number: u8) {
-        let now = self.now;
-        if let Some(port) = self.port(number) {
-            port.released(now);
+        if let Some(port) = self.ports.get_mut(index_of(number)) {
+            port.released(self.now);
         }
     }
 
@@ -197,14 +200,14 @@ impl System {
 
     /// Somebody is one too many, which is news.
     pub(crate) fn refuse(&mut self, number: u8) {
-        if let Some(port) = self.port(number) {
+        if let Some(port) = self.ports.get_mut(index_of(number)) {
             port.refuses = true;
         }
     }
 
     // What happens next at a port.
     fn step(&mut self, number: u8, has_room: bool) -> Step {
-        let at = usize::from(number).saturating_sub(1);
+        let at = index_of(number);
         let place = Place {
             token: Token(at),
             has_room,
@@ -258,9 +261,8 @@ impl System {
             return Some(HubNews::Closed(index, why));
         }
         for number in 1..9 {
-            let news = self.port_news(wires, number);
-            if news.is_some() {
-                return news;
+            if let Some(news) = self.port_news(wires, number) {
+                return Some(news);
             }
         }
         None
@@ -285,7 +287,7 @@ impl System {
         requires { index < length wires.now }
         ensures { result ≤ length buf.new }
     {
-        let at = usize::from(wires.port(index)).saturating_sub(1);
+        let at = index_of(wires.port(index));
         let count = match self.ports.get_mut(at) {
             Some(port) => port.receive(peer, buf),
             None => 0,
@@ -320,7 +322,7 @@ impl System {
         requires { 0 < length bytes.now }
         ensures { result ≤ length bytes.now }
     {
-        match self.ports.get(usize::from(number).saturating_sub(1)) {
+        match self.ports.get(index_of(number)) {
             Some(port) => port.send(peer, bytes),
             None => 0,
         }
@@ -364,7 +366,7 @@ impl System {
         ensures port { IfSome result (λ asker. asker.0.port ≡ number) }
         ensures within { IfSome result (λ asker. asker.0.count ≤ length buf.new) }
     {
-        let port = self.ports.get_mut(usize::from(number).saturating_sub(1))?;
+        let port = self.ports.get_mut(index_of(number))?;
         let peer = port.asker()?;
         if wires.knows(number, peer) {
             return None;
@@ -385,9 +387,8 @@ impl System {
         ensures within { IfSome result (λ asker. asker.0.count ≤ length buf.new) }
     {
         for number in 1..9 {
-            let asker = self.asker(wires, number, buf);
-            if asker.is_some() {
-                return asker;
+            if let Some(asker) = self.asker(wires, number, buf) {
+                return Some(asker);
             }
         }
         None

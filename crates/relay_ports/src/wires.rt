@@ -120,7 +120,10 @@ impl End {
     pub(crate) fn watched(&mut self, registry: &Registry, token: Token) -> bool {
         match self {
             End::Stream(stream) => watch(registry, stream, token),
-            End::Device(device) => watch(registry, &mut SourceFd(&device.as_raw_fd()), token),
+            End::Device(device) => {
+                let number = device.as_raw_fd();
+                watch(registry, &mut SourceFd(&number), token)
+            }
             End::Files(_, _) | End::Peer(_) => true,
         }
     }
