@@ -28,6 +28,13 @@ pub(crate) struct Letter {
     ghost within: { end ≤ length bytes.items },
 }
 
+fn receive_into(socket: &UdpSocket, buf: &mut [u8]) -> io::Result<(usize, SocketAddr)>
+    ensures { IfOk result (λ received. received.0 ≤ length buf.new) }
+{
+    let (count, from) = socket.recv_from(buf)?;
+    Ok((count, from))
+}
+
 impl Letter {
     /// None. Allocates room for one.
     pub(crate) fn new(alloc: Global) -> Result<Letter, AllocError> {
@@ -73,7 +80,8 @@ impl Letter {
     // Receives one, without waiting; what was left is dropped.
     fn receive(&mut self, socket: &UdpSocket) -> io::Result<usize> {
         self.forget();
-        let (count, from) = socket.recv_from(&mut self.bytes)?;
+        let (count, from) = receive_into(socket, &mut self.bytes)?;
+        self.start = 0;
         self.end = count;
         if count > 0 {
             self.from = Some(from);

@@ -1,13 +1,11 @@
 // Devices and files that don't wait.
 
 use crate::Files;
-use std::fs;
 use std::fs::{File, OpenOptions};
-use std::io;
 use std::io::{Error, ErrorKind};
-use std::net;
 use std::os::fd::AsFd;
 use std::os::unix::fs::{FileTypeExt, MetadataExt};
+use std::{fs, io, net};
 
 fn invalid() -> Error {
     Error::from(ErrorKind::InvalidInput)

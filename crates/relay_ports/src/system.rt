@@ -283,7 +283,13 @@ impl System {
     }
 
     // What is there of a peer.
-    fn receive(&mut self, wires: &Wires, index: usize, peer: Option<SocketAddr>, buf: &mut [u8]) -> usize
+    fn receive(
+        &mut self,
+        wires: &Wires,
+        index: usize,
+        peer: Option<SocketAddr>,
+        buf: &mut [u8],
+    ) -> usize
         requires { index < length wires.now }
         ensures { result ≤ length buf.new }
     {
@@ -382,7 +388,11 @@ impl System {
     }
 
     /// The next datagram of somebody who has no link, with its sender.
-    pub(crate) fn stranger(&mut self, wires: &Wires, buf: &mut [u8]) -> Option<(Stranger, SocketAddr)>
+    pub(crate) fn stranger(
+        &mut self,
+        wires: &Wires,
+        buf: &mut [u8],
+    ) -> Option<(Stranger, SocketAddr)>
         ensures port { IfSome result (λ asker. (1 ≤ asker.0.port) × (asker.0.port ≤ 8)) }
         ensures within { IfSome result (λ asker. asker.0.count ≤ length buf.new) }
     {
