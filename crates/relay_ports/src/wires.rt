@@ -238,7 +238,9 @@ impl Wires {
     }
 
     /// A slot that no open link has.
-    pub(crate) fn free_slot(&self) -> usize {
+    pub(crate) fn free_slot(&self) -> usize
+        ensures { result < 32 }
+    {
         for slot in 0..MOST_LINKS {
             if !self.list.iter().any(|wire| wire.slot == slot) {
                 return slot;
