@@ -7,8 +7,8 @@ ghost use Rattle.relay_hub.specs.Seats.{IsNews, adopted_at, asked_at, may_adopt,
 use crate::{HubNews, Stranger};
 use std::time::Duration;
 
-/// The ports of a relay, at most eight, numbered from 1, with the links that are open there, at most 32. An open link is
-/// called by its index, from 0, in the order of their opening.
+/// The ports of a relay, at most eight, numbered from 1, with the links that are open there, at most 32. An open link
+/// is called by its index, from 0, in the order of their opening.
 pub trait Hub: Drop {
     ghost use Rattle.std.specs.Prelude.{Option};
     ghost use Rattle.relay_hub.specs.Hubs.{HubState};
@@ -46,16 +46,17 @@ pub trait Hub: Drop {
         ensures seats { seats self.new ≡ seats self.old }
         ensures state { state self.new ≡ option_map (takes index (take result bytes.now)) (state self.old) };
 
-    /// Reads the next datagram of somebody who has no link, as much of it as the buffer has room for. It is forgotten at
-    /// the next call of this, unless it is adopted before.
+    /// Reads the next datagram of somebody who has no link, as much of it as the buffer has room for. It is forgotten
+    /// at the next call of this, unless it is adopted before.
     fn stranger(&mut self, buf: &mut [u8]) -> Option<Stranger>
         ensures port { IfSome result (λ s. (1 ≤ s.port) × (s.port ≤ 8)) }
         ensures within { IfSome result (λ s. s.count ≤ length buf.new) }
         ensures seats { seats self.new ≡ asked_at result (seats self.old) }
         ensures state { state self.new ≡ option_map (asks result buf.new) (state self.old) };
 
-    /// The sender of the last datagram becomes a link, the last one, and has given the datagram's bytes from this offset
-    /// on. Returns false where there is none, or it were one too many, which comes as news; then it is forgotten.
+    /// The sender of the last datagram becomes a link, the last one, and has given the datagram's bytes from this
+    /// offset on. Returns false where there is none, or it were one too many, which comes as news; then it is
+    /// forgotten.
     fn adopt(&mut self, from: usize) -> bool
         ensures answer { result ≡ may_adopt (seats self.old) }
         ensures seats { seats self.new ≡ adopted_at result (seats self.old) }

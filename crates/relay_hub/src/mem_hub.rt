@@ -1,14 +1,17 @@
 // A hub over memory, at which happens what its maker lists.
-ghost use Rattle.std.specs.Prelude.{◌≡◌, ◌+◌, ◌-◌, ◌++◌, ◌∷◌, ◌<◌, ◌≤◌, [], ℕ, List, drop, get_or, length, min, take, vec_len, vec_capacity, IfOk, IfSome, Some};
+ghost use Rattle.std.specs.Prelude.{◌≡◌, ◌+◌, ◌-◌, ◌++◌, ◌<◌, ◌≤◌, drop, get_or, length, min, take, IfOk, IfSome, Some};
 ghost use Rattle.relay_hub.specs.Hubs.{AreOpened, adopts, asks, blank, gives, happens, place_of, takes, tape_of};
-ghost use Rattle.relay_hub.specs.MemHubs.{after_next, after_read, after_stranger, after_write, front, given_at, hub_from_start, is_over, is_port, links_at, most_bytes, news_at, opening_at, next_news, next_stranger, piece_at, read_count, write_count};
-ghost use Rattle.relay_hub.specs.Seats.{IsNews, adopted_at, asked_at, has_room, may_adopt, port_of, ports_of, ports_told, seats_of, told_at};
+ghost use Rattle.relay_hub.specs.MemHubs.{after_read, after_stranger, after_write, front, given_at};
+ghost use Rattle.relay_hub.specs.MemHubs.{hub_from_start, is_over, links_at, most_bytes, news_at, opening_at};
+ghost use Rattle.relay_hub.specs.MemHubs.{next_stranger, piece_at, read_count, write_count};
+ghost use Rattle.relay_hub.specs.Seats.{IsNews, has_room, may_adopt};
+ghost use Rattle.relay_hub.specs.Seats.{port_of, ports_of, ports_told, seats_of};
 
-use crate::mem_tape::MemTape;
-use crate::{Happening, Hub, HubNews, NoMemory, Stranger, Why};
+use crate::happenings::{is_port, waiting_news};
+use crate::mem_tape::{MemTape, open, spare_tapes};
+use crate::{Happening, HubNews, NoMemory, Stranger, Why};
 use std::alloc::Global;
 use std::marker::Model;
-use std::time::Duration;
 
 const MOST_LINKS: usize = 32;
 
@@ -90,61 +93,6 @@ impl Model for MemHub {
     }) };
 }
 
-// Tapes for so many links.
-fn spare_tapes(alloc: Global, count: usize) -> Result<Vec<MemTape>, NoMemory>
-    ensures { IfOk result (λ tapes. vec_len tapes ≡ count) }
-{
-    let mut tapes = Vec::with_capacity(alloc, count)?;
-    for _tape in 0..count {
-        let tape = MemTape::new(alloc)?;
-        tapes.push_reserved(tape);
-    }
-    Ok(tapes)
-}
-
-// A link opens, the last one, with the next number, and has given these bytes.
-fn open(
-    tapes: &mut Vec<MemTape>,
-    spares: &mut Vec<MemTape>,
-    links: &mut Vec<usize>,
-    port: u8,
-    given: &[u8],
-)
-    requires spare { 0 < vec_len spares.old }
-    requires room { vec_len tapes.old < vec_capacity tapes.old }
-    requires few { vec_len links.old < vec_capacity links.old }
-    requires short { length given.now ≤ 65536 }
-    ensures tapes { tapes.new.items ≡ tapes.old.items ++ record (blank port) { given = given.now } ∷ [] }
-    ensures links { links.new.items ≡ links.old.items ++ (vec_len tapes.old + 1) ∷ [] }
-    ensures spares { vec_len spares.new + 1 ≡ vec_len spares.old }
-    ensures tape_room { vec_capacity tapes.new ≡ vec_capacity tapes.old }
-    ensures link_room { vec_capacity links.new ≡ vec_capacity links.old }
-{
-    let number = tapes.len() + 1;
-    let mut tape = spares.pop().unwrap();
-    tape.begin(port);
-    tape.give(given);
-    tapes.push_reserved(tape);
-    links.push_reserved(number);
-}
-
-fn is_port(port: u8) -> bool
-    ensures { result ≡ is_port port }
-{
-    1 <= port && port <= 8
-}
-
-fn waiting_news(port: u8) -> Option<HubNews>
-    ensures result { result ≡ news_at (Happening.Fails port) [] }
-    ensures news { (ports : List ℕ) → IfSome result (λ news. IsNews news ports) }
-{
-    if is_port(port) {
-        Some(HubNews::Waits(port))
-    } else {
-        None
-    }
-}
-
 impl MemHub {
     /// At first no link is open. What is to happen does so as it is listed, with these bytes; each write takes as many
     /// bytes at most as is listed, and all of them once nothing more is. It allocates all its memory here.
@@ -201,8 +149,8 @@ impl MemHub {
         self.links.len() < MOST_LINKS && self.links_at(port) < MOST_OF_A_PORT
     }
 
-    // What is to happen next.
-    fn front(&self) -> Option<Happening>
+    /// What is to happen next.
+    pub(crate) fn front(&self) -> Option<Happening>
         ensures front { result ≡ front self.now }
         ensures step { IfSome result (λ _. self.now.step < length self.now.script) }
     {
@@ -223,8 +171,8 @@ impl MemHub {
         }
     }
 
-    // The news of what is to happen, if it is news and can happen.
-    fn news(&self, happening: Happening) -> Option<HubNews>
+    /// The news of what is to happen, if it is news and can happen.
+    pub(crate) fn news(&self, happening: Happening) -> Option<HubNews>
         ensures result { result ≡ news_at happening (ports_of self.now.hub) }
         ensures news { IfSome result (λ news. IsNews news (ports_of self.now.hub)) }
     {
@@ -258,8 +206,8 @@ impl MemHub {
         }
     }
 
-    // Whether it is over once it was told, or passed over.
-    fn is_over(&self, happening: Happening) -> bool
+    /// Whether it is over once it was told, or passed over.
+    pub(crate) fn is_over(&self, happening: Happening) -> bool
         ensures { result ≡ is_over happening (ports_of self.now.hub) }
     {
         match happening {
@@ -295,8 +243,8 @@ impl MemHub {
         }
     }
 
-    // What is to happen does, and is told.
-    fn tell(&mut self, news: HubNews)
+    /// What is to happen does, and is told.
+    pub(crate) fn tell(&mut self, news: HubNews)
         requires news { IsNews news (ports_of self.old.hub) }
         requires step { self.old.step < length self.old.script }
         ensures state { self.new ≡ record self.old {
@@ -308,8 +256,8 @@ impl MemHub {
         self.advance(news);
     }
 
-    // What is to happen is passed over.
-    fn pass_over(&mut self)
+    /// What is to happen is passed over.
+    pub(crate) fn pass_over(&mut self)
         requires { self.old.step < length self.old.script }
         ensures { self.new ≡ record self.old { step = self.old.step + 1 } }
     {
@@ -328,8 +276,8 @@ impl MemHub {
         self.at += count;
     }
 
-    // The next bytes of an open link.
-    fn give_next(&mut self, index: usize, buf: &mut [u8]) -> usize
+    /// The next bytes of an open link.
+    pub(crate) fn give_next(&mut self, index: usize, buf: &mut [u8]) -> usize
         requires { index < length (ports_of self.old.hub) }
         ensures within { result ≤ length buf.new }
         ensures state { self.new.hub ≡ gives index (take result buf.new) self.old.hub }
@@ -350,8 +298,8 @@ impl MemHub {
         count
     }
 
-    // An open link takes bytes.
-    fn take_next(&mut self, index: usize, bytes: &[u8]) -> usize
+    /// An open link takes bytes.
+    pub(crate) fn take_next(&mut self, index: usize, bytes: &[u8]) -> usize
         requires { index < length (ports_of self.old.hub) }
         ensures within { result ≤ length bytes.now }
         ensures state { self.new.hub ≡ takes index (take result bytes.now) self.old.hub }
@@ -368,8 +316,8 @@ impl MemHub {
         count
     }
 
-    // The datagram that is next.
-    fn hear_next(&mut self, buf: &mut [u8]) -> Option<Stranger>
+    /// The datagram that is next.
+    pub(crate) fn hear_next(&mut self, buf: &mut [u8]) -> Option<Stranger>
         ensures port { IfSome result (λ s. (1 ≤ s.port) × (s.port ≤ 8)) }
         ensures within { IfSome result (λ s. s.count ≤ length buf.new) }
         ensures state { self.new.hub ≡ asks result buf.new self.old.hub }
@@ -391,8 +339,8 @@ impl MemHub {
         Some(stranger)
     }
 
-    // The stranger becomes a link, if there is room.
-    fn take_in(&mut self, from: usize) -> bool
+    /// The stranger becomes a link, if there is room.
+    pub(crate) fn take_in(&mut self, from: usize) -> bool
         ensures answer { result ≡ may_adopt (seats_of self.old.hub) }
         ensures after { self.new ≡ record self.old { hub = adopts result from self.old.hub } }
         ensures opened { AreOpened self.old.hub }
@@ -474,93 +422,4 @@ impl MemHub {
             _ => None,
         }
     }
-}
-
-impl Hub for MemHub {
-    ghost use Rattle.relay_hub.specs.Seats.{seats_of};
-
-    ghost seats = { λ h. seats_of h.hub };
-
-    ghost state = { λ h. Some h.hub };
-
-    fn wait(&mut self, _most: Duration)
-        ensures unchanged { self.new ≡ self.old }
-    {}
-
-    fn next(&mut self) -> Option<HubNews>
-        // What every hub promises.
-        ensures news { IfSome result (λ news. IsNews news (ports_of self.old.hub)) }
-        ensures seats { seats_of self.new.hub ≡ told_at result (seats_of self.old.hub) }
-        ensures state { self.new.hub ≡ happens result self.old.hub }
-
-        // The whole result, and the state afterwards.
-        ensures answer { result ≡ next_news self.old }
-        ensures after { self.new ≡ after_next self.old }
-    {
-        let happening = self.front()?;
-        let news = self.news(happening);
-        match news {
-            Some(news) => self.tell(news),
-            None if self.is_over(happening) => self.pass_over(),
-            None => {}
-        }
-        news
-    }
-
-    fn read(&mut self, index: usize, buf: &mut [u8]) -> usize
-        requires { index < length (ports_of self.old.hub) }
-        // What every hub promises.
-        ensures within { result ≤ length buf.new }
-        ensures seats { seats_of self.new.hub ≡ seats_of self.old.hub }
-        ensures state { self.new.hub ≡ gives index (take result buf.new) self.old.hub }
-
-        // The whole result, and the state afterwards.
-        ensures answer { result ≡ read_count index (length buf.old) self.old }
-        ensures after { self.new ≡ after_read index result self.old }
-        ensures buffer { buf.new ≡ take result (drop self.old.at self.old.bytes) ++ drop result buf.old }
-    {
-        self.give_next(index, buf)
-    }
-
-    fn write(&mut self, index: usize, bytes: &[u8]) -> usize
-        requires { index < length (ports_of self.old.hub) }
-        // What every hub promises.
-        ensures within { result ≤ length bytes.now }
-        ensures seats { seats_of self.new.hub ≡ seats_of self.old.hub }
-        ensures state { self.new.hub ≡ takes index (take result bytes.now) self.old.hub }
-
-        // The whole result, and the state afterwards.
-        ensures answer { result ≡ write_count index (length bytes.now) self.old }
-        ensures after { self.new ≡ after_write index (take result bytes.now) self.old }
-    {
-        self.take_next(index, bytes)
-    }
-
-    fn stranger(&mut self, buf: &mut [u8]) -> Option<Stranger>
-        // What every hub promises.
-        ensures port { IfSome result (λ s. (1 ≤ s.port) × (s.port ≤ 8)) }
-        ensures within { IfSome result (λ s. s.count ≤ length buf.new) }
-        ensures seats { seats_of self.new.hub ≡ asked_at result (seats_of self.old.hub) }
-        ensures state { self.new.hub ≡ asks result buf.new self.old.hub }
-
-        // The whole result, and the state afterwards.
-        ensures answer { result ≡ next_stranger (length buf.old) self.old }
-        ensures after { self.new ≡ after_stranger result self.old }
-    {
-        self.hear_next(buf)
-    }
-
-    fn adopt(&mut self, from: usize) -> bool
-        // What every hub promises.
-        ensures answer { result ≡ may_adopt (seats_of self.old.hub) }
-        ensures seats { seats_of self.new.hub ≡ adopted_at result (seats_of self.old.hub) }
-        ensures state { self.new.hub ≡ adopts result from self.old.hub }
-
-        // Nothing else changes.
-        ensures after { self.new ≡ record self.old { hub = adopts result from self.old.hub } }
-    {
-        self.take_in(from)
-    }
-
-    ghost agrees = { λ hub i. seats_of hub.hub };
 }

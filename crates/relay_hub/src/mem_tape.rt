@@ -1,5 +1,5 @@
 // What a link over memory gave and took.
-ghost use Rattle.std.specs.Prelude.{◌≡◌, ◌+◌, ◌-◌, ◌++◌, ◌≤◌, length, IfOk};
+ghost use Rattle.std.specs.Prelude.{◌≡◌, ◌+◌, ◌-◌, ◌++◌, ◌∷◌, ◌<◌, ◌≤◌, [], length, vec_len, vec_capacity, IfOk};
 ghost use Rattle.relay_hub.specs.Hubs.{blank};
 
 use crate::NoMemory;
@@ -99,4 +99,42 @@ impl MemTape {
     {
         self.taken.extend_from_slice(bytes).unwrap();
     }
+}
+
+/// Tapes for so many links.
+pub(crate) fn spare_tapes(alloc: Global, count: usize) -> Result<Vec<MemTape>, NoMemory>
+    ensures { IfOk result (λ tapes. vec_len tapes ≡ count) }
+{
+    let mut tapes = Vec::with_capacity(alloc, count)?;
+    for _tape in 0..count {
+        let tape = MemTape::new(alloc)?;
+        tapes.push_reserved(tape);
+    }
+    Ok(tapes)
+}
+
+/// A link opens, the last one, with the next number, and has given these bytes.
+pub(crate) fn open(
+    tapes: &mut Vec<MemTape>,
+    spares: &mut Vec<MemTape>,
+    links: &mut Vec<usize>,
+    port: u8,
+    given: &[u8],
+)
+    requires spare { 0 < vec_len spares.old }
+    requires room { vec_len tapes.old < vec_capacity tapes.old }
+    requires few { vec_len links.old < vec_capacity links.old }
+    requires short { length given.now ≤ 65536 }
+    ensures tapes { tapes.new.items ≡ tapes.old.items ++ record (blank port) { given = given.now } ∷ [] }
+    ensures links { links.new.items ≡ links.old.items ++ (vec_len tapes.old + 1) ∷ [] }
+    ensures spares { vec_len spares.new + 1 ≡ vec_len spares.old }
+    ensures tape_room { vec_capacity tapes.new ≡ vec_capacity tapes.old }
+    ensures link_room { vec_capacity links.new ≡ vec_capacity links.old }
+{
+    let number = tapes.len() + 1;
+    let mut tape = spares.pop().unwrap();
+    tape.begin(port);
+    tape.give(given);
+    tapes.push_reserved(tape);
+    links.push_reserved(number);
 }

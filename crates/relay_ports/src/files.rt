@@ -11,8 +11,8 @@ fn invalid() -> Error {
     Error::from(ErrorKind::InvalidInput)
 }
 
-// From now on no read or write of the file waits. The mode is that of the open file, which each descriptor of it shares;
-// a socket's call sets it for any of them.
+// From now on no read or write of the file waits. The mode is that of the open file, which each descriptor of it
+// shares; a socket's call sets it for any of them.
 fn never_waits(file: &File) -> io::Result<()> {
     let shared = file.as_fd().try_clone_to_owned()?;
     net::TcpStream::from(shared).set_nonblocking(true)

@@ -2,8 +2,8 @@
 //!
 //! [`RelayPorts`] opens its ports at its first calls, and those that closed or couldn't be opened again after a second.
 //! No call but `wait` waits, except where the system leaves no choice: the lookup of a host that is no address, and the
-//! opening of a device whose driver waits for a carrier. Nothing allocates but `new` and the lookup's own. It tells no bytes; each index,
-//! count and limit is proved.
+//! opening of a device whose driver waits for a carrier. Nothing allocates but `new` and the lookup's own. It tells no
+//! bytes; each index, count and limit is proved.
 #![tactic(auto)]
 
 mod addresses;

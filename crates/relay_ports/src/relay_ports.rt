@@ -36,8 +36,8 @@ impl Drop for RelayPorts {
 }
 
 impl RelayPorts {
-    /// Of these ports, of which the first eight are opened, from the first call of `next` on. It allocates all its memory
-    /// here; it fails if there is none, or the system has nothing to wait with.
+    /// Of these ports, of which the first eight are opened, from the first call of `next` on. It allocates all its
+    /// memory here; it fails if there is none, or the system has nothing to wait with.
     pub fn new(rt: &HostRuntime, targets: Vec<Target>) -> io::Result<RelayPorts>
         ensures start { IfOk result (λ hub. ⟦<RelayPorts as Hub>⟧.seats hub ≡ no_seats) }
         ensures untold { IfOk result (λ hub. ⟦<RelayPorts as Hub>⟧.state hub ≡ None) }

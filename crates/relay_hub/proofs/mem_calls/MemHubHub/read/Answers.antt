@@ -1,7 +1,7 @@
 use Rattle.std.proofs.Common.{◌≡◌, ◌∙◌, ap, take}
 use Rattle.relay_hub.specs.Seats.{seats_of}
 use Rattle.relay_hub.proofs.Seated.{seats_gives}
-use Rattle.relay_hub.proofs.mem_hub.MemHubHub.read.Goals as goal
+use Rattle.relay_hub.proofs.mem_calls.MemHubHub.read.Goals as goal
 
 pub returns-clause-seats : goal.returns-clause-seats
 returns-clause-seats c =

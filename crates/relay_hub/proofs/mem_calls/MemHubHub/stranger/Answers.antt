@@ -1,7 +1,7 @@
 use Rattle.std.proofs.Common.{◌≡◌, ◌∙◌, ap}
 use Rattle.relay_hub.specs.Seats.{seats_of}
 use Rattle.relay_hub.proofs.Seated.{seats_asks}
-use Rattle.relay_hub.proofs.mem_hub.MemHubHub.stranger.Goals as goal
+use Rattle.relay_hub.proofs.mem_calls.MemHubHub.stranger.Goals as goal
 
 pub returns-clause-seats : goal.returns-clause-seats
 returns-clause-seats c =

@@ -2,7 +2,7 @@ use Rattle.std.proofs.Common.{◌≡◌, ◌∙◌, ap}
 use Rattle.relay_hub.specs.MemHubs.{MemHubState}
 use Rattle.relay_hub.specs.Seats.{seats_of}
 use Rattle.relay_hub.proofs.Seated.{seats_adopts}
-use Rattle.relay_hub.proofs.mem_hub.MemHubHub.adopt.Goals as goal
+use Rattle.relay_hub.proofs.mem_calls.MemHubHub.adopt.Goals as goal
 
 pub returns-clause-seats : goal.returns-clause-seats
 returns-clause-seats c =
