@@ -12,7 +12,7 @@ use std::net::SocketAddr;
 const MOST_BYTES: usize = 65_536;
 
 // So many datagrams without a byte, or answers of the network, are passed over in one look.
-const MOST_PASSED: u32 = 100;
+const MOST_PASSED: u32 = 1_000;
 
 // The network may answer an earlier datagram in place of sending one.
 const MOST_SENDS: u32 = 2;
