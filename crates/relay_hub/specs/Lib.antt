@@ -1,0 +1,4 @@
+pub mod Hubs
+pub mod MemHubs
+pub mod Seats
+pub mod MemRooms
