@@ -1,0 +1,12 @@
+//! Laws of waiting lines: functions without a body, whose contract is the law.
+ghost use Rattle.relay_lines.specs.Telling.{TellsAll, TellsNew, TellsNext, TellsPut, TellsWrote};
+
+/// What is written is every line that was put, in order, but for those that `lines lost N` counts in their place; each
+/// write is given one line, or the rest of one.
+pub fn every_line()
+    ensures new { TellsNew }
+    ensures put { TellsPut }
+    ensures wrote { TellsWrote }
+    ensures next { TellsNext }
+    ensures all { TellsAll }
+{}
