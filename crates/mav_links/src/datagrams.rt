@@ -39,7 +39,7 @@ fn size_by_header(bytes: &[u8]) -> usize
 
 /// How many bytes go out in one datagram: those of the first frame, if it is whole, and else as many as there are and
 /// fit.
-pub(crate) fn datagram_size(bytes: &[u8]) -> usize
+pub fn datagram_size(bytes: &[u8]) -> usize
     requires { 0 < length bytes.now }
     ensures exact { result ≡ spec.datagram_size bytes.now }
     ensures some { 0 < result }

@@ -1,6 +1,7 @@
 // A link over two files.
 ghost use Rattle.std.specs.Prelude.{◌≡◌, ◌⊎◌, None, IsSome, IsNone};
-ghost use Rattle.mav_ports.specs.Gets.{GivesWithin};
+ghost use Rattle.mav_ports.specs.Gets.{given, GivesWithin};
+ghost use Rattle.std.specs.Io.KnownBytes.{Consumes};
 ghost use Rattle.mav_links.specs.Tallies.{nothing_counted};
 
 use crate::Link;
@@ -34,7 +35,8 @@ impl<R: Read + Drop, W: Write + Drop> FileLink<R, W> {
 
 // What the reader gave.
 fn read_from<R: Read>(reader: &mut R, buf: &mut [u8]) -> Got
-    ensures { GivesWithin result buf.new }
+    ensures within { GivesWithin result buf.new }
+    ensures consumed { Consumes (R.remaining reader.old) (R.remaining reader.new) (given result buf.new) }
 {
     match read_once(reader, buf) {
         Ok(0) => Got::End,

@@ -30,6 +30,7 @@ mod writing;
 
 pub use bells::Bell;
 pub use connection::Connection;
+pub use datagrams::datagram_size;
 pub use file_link::FileLink;
 pub use links::Link;
 pub use mem_link::MemLink;

@@ -1,7 +1,7 @@
 // What a link promises.
 ghost use Rattle.std.specs.Prelude.{◌≡◌, ◌<◌, true, length, IfSome, option_map};
 ghost use Rattle.std.specs.Io.KnownBytes.{append_known, prepend_known};
-ghost use Rattle.mav_ports.specs.Gets.{given, GivesWithin, CountsFault, idles_after, IsSpent};
+ghost use Rattle.mav_ports.specs.Gets.{given, CountsFault, EndsOnly, GivesWithin, IsSpent, idles_after};
 ghost use Rattle.mav_ports.specs.Puts.{taken, TakesWithin, CountsRefusal};
 ghost use Rattle.mav_links.specs.Links.{pauses_after};
 
@@ -26,6 +26,7 @@ pub trait Link: Send + Drop {
         ensures pauses { (state self.new).pauses ≡ option_map (pauses_after result) (state self.old).pauses }
         ensures end { result ≡ Got.End → IsSpent (state self.new).left }
         ensures ended { result ≡ Got.End → (state self.new).ended ≡ true }
+        ensures only_end { EndsOnly result ((state self.old).ended ≡ true) ((state self.new).ended ≡ true) }
         ensures stays { (state self.old).ended ≡ true → result ≡ Got.End }
         ensures sent { (state self.new).sent ≡ (state self.old).sent };
 

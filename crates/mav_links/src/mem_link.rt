@@ -1,6 +1,6 @@
 // A link over memory that fails and idles at the calls that its maker lists.
 ghost use Rattle.std.specs.Prelude.{◌≡◌, ◌<◌, ◌≤◌, ◌++◌, ◌∷◌, true, length, [], IfOk, vec_len, vec_capacity};
-ghost use Rattle.mav_ports.specs.Gets.{given, GivesWithin, CountsFault, idles_after};
+ghost use Rattle.mav_ports.specs.Gets.{given, CountsFault, EndsOnly, GivesWithin, idles_after};
 ghost use Rattle.mav_ports.specs.Puts.{taken, TakesWithin, CountsRefusal};
 ghost use Rattle.mav_ports.specs.MemReads.{read_answer, after_read, buffer_after};
 ghost use Rattle.mav_ports.specs.MemWrites.{write_answer, after_write};
@@ -88,6 +88,7 @@ impl Link for MemLink {
         ensures pauses { self.new.pauses ≡ pauses_after result self.old.pauses }
         ensures end { result ≡ Got.End → self.new.reads.left ≡ [] }
         ensures ended { result ≡ Got.End → self.new.reads.ended ≡ true }
+        ensures only_end { EndsOnly result (self.old.reads.ended ≡ true) (self.new.reads.ended ≡ true) }
         ensures stays { self.old.reads.ended ≡ true → result ≡ Got.End }
 
         // The whole result, and the state afterwards.

@@ -7,7 +7,8 @@ use std::time::{Clock, Duration};
 
 const MOST_SECONDS_TO_WRITE: u64 = 5;
 
-// A port that rests until nothing has come for a while may be so late: the Idle answers that are due then come at once.
+// A port that rests until nothing has come for a while may be so late: the Idle answers that are due then come at
+// once.
 const MOST_MILLIS_LATE: u64 = 40;
 
 /// When a read gives Idle.

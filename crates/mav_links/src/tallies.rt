@@ -1,7 +1,8 @@
 // What an adapter over the system counts.
 ghost use Rattle.std.specs.Prelude.{◌≡◌, true};
-ghost use Rattle.mav_ports.specs.Gets.{CountsFault, GivesWithin, idles_after};
-ghost use Rattle.mav_ports.specs.Puts.{CountsRefusal, TakesWithin};
+ghost use Rattle.mav_ports.specs.Gets.{given, CountsFault, EndsOnly, GivesWithin, idles_after};
+ghost use Rattle.std.specs.Io.KnownBytes.{Appends, Consumes};
+ghost use Rattle.mav_ports.specs.Puts.{taken, CountsRefusal, TakesWithin};
 ghost use Rattle.mav_links.specs.Links.{IsNoBytes};
 ghost use Rattle.mav_links.specs.Tallies.{nothing_counted};
 
@@ -32,6 +33,7 @@ impl Tally {
         ensures faults { CountsFault got self.old.faults self.new.faults }
         ensures idles { self.new.idles ≡ idles_after got self.old.idles }
         ensures ended { got ≡ Got.End → self.new.ended ≡ true }
+        ensures only_end { EndsOnly got (self.old.ended ≡ true) (self.new.ended ≡ true) }
         ensures stays { self.old.ended ≡ true → self.new.ended ≡ true }
     {
         match got {
@@ -56,7 +58,8 @@ impl Tally {
 
 /// What a reader gave that waits for its bytes: Idle if none came in time.
 pub(crate) fn read_waiting<R: Read>(reader: &mut R, buf: &mut [u8]) -> Got
-    ensures { GivesWithin result buf.new }
+    ensures within { GivesWithin result buf.new }
+    ensures consumed { Consumes (R.remaining reader.old) (R.remaining reader.new) (given result buf.new) }
 {
     match read_once(reader, buf) {
         Ok(0) => Got::End,
@@ -78,7 +81,8 @@ pub(crate) fn waited(kind: ErrorKind) -> Got
 
 /// What a writer took.
 pub(crate) fn put_once<W: Write>(writer: &mut W, bytes: &[u8]) -> Put
-    ensures { TakesWithin result bytes.now }
+    ensures within { TakesWithin result bytes.now }
+    ensures wrote { Appends (W.contents writer.old) (W.contents writer.new) (taken result bytes.now) }
 {
     match write_once(writer, bytes) {
         Ok(count) if count > 0 => Put::Took(count),

@@ -1,7 +1,8 @@
 // A link over datagrams.
-ghost use Rattle.std.specs.Prelude.{◌≡◌, ◌<◌, ◌≤◌, None, Some, length, IfOk};
-ghost use Rattle.mav_ports.specs.Gets.{GivesWithin};
+ghost use Rattle.std.specs.Prelude.{◌≡◌, ◌<◌, ◌≤◌, ◌++◌, None, Some, length, IfOk};
+ghost use Rattle.mav_ports.specs.Gets.{given, GivesWithin};
 ghost use Rattle.mav_ports.specs.Puts.{TakesWithin};
+ghost use Rattle.mav_links.specs.Datagrams.{bytes_between};
 ghost use Rattle.mav_links.specs.Links.{IsNoBytes};
 ghost use Rattle.mav_links.specs.Tallies.{nothing_counted};
 
@@ -63,6 +64,7 @@ impl<C: Clock + Drop> UdpLink<C> {
 
     // Keeps the bytes of a datagram, if one came, and returns what a read gives where none is left.
     fn receive(&mut self) -> Got
+        requires empty { self.old.start ≡ self.old.end }
         ensures none { IsNoBytes result }
         ensures counts { self.new.tally ≡ self.old.tally }
     {
@@ -81,6 +83,9 @@ impl<C: Clock + Drop> UdpLink<C> {
         requires some { 0 < length buf.old }
         requires none { IsNoBytes got }
         ensures within { GivesWithin result buf.new }
+        // What was kept is what it gives, and what is kept now.
+        ensures kept { bytes_between self.old.start self.old.end self.old.datagram.items
+            ≡ given result buf.new ++ bytes_between self.new.start self.new.end self.new.datagram.items }
         ensures counts { self.new.tally ≡ self.old.tally }
     {
         let count = (self.end - self.start).min(buf.len());

@@ -28,7 +28,16 @@ pub record MemReads : Type 0 where
 -- before the first read
 abbrev pub reads_from_start : List ℕ → ℕ → List ℕ → List ℕ → MemReads
 reads_from_start bytes chunk fails idles =
-    record { left = bytes; chunk = chunk; fails = fails; idles = idles; call = Some 0; faults = 0; idled = 0; ended = false }
+    record {
+      left = bytes;
+      chunk = chunk;
+      fails = fails;
+      idles = idles;
+      call = Some 0;
+      faults = 0;
+      idled = 0;
+      ended = false;
+    }
 
 -- End if nothing is left, and otherwise the least of what is left, the chunk size and the buffer
 abbrev pub bytes_or_end : List ℕ → ℕ → ℕ → Got

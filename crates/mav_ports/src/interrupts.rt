@@ -1,5 +1,6 @@
 // Calls of the system that are made again if a signal interrupts them.
 ghost use Rattle.std.specs.Prelude.{◌≤◌, length, IfOk};
+ghost use Rattle.std.specs.Io.KnownBytes.{ReadConsumes, WriteAppends};
 
 use std::io;
 use std::io::{ErrorKind, Read, Write};
@@ -10,6 +11,7 @@ const MOST_REPEATS: u32 = 1_000_000;
 /// Reads once, and again if the read was interrupted.
 pub fn read_once<R: Read>(reader: &mut R, buf: &mut [u8]) -> io::Result<usize>
     ensures within { IfOk result (λ count. count ≤ length buf.new) }
+    ensures bytes { ReadConsumes (R.remaining reader.old) (R.remaining reader.new) result buf.new }
 {
     for _repeat in 0..MOST_REPEATS {
         match reader.read(buf) {
@@ -23,6 +25,7 @@ pub fn read_once<R: Read>(reader: &mut R, buf: &mut [u8]) -> io::Result<usize>
 /// Writes once, and again if the write was interrupted.
 pub fn write_once<W: Write>(writer: &mut W, bytes: &[u8]) -> io::Result<usize>
     ensures within { IfOk result (λ count. count ≤ length bytes.now) }
+    ensures bytes { WriteAppends (W.contents writer.old) (W.contents writer.new) result bytes.now }
 {
     for _repeat in 0..MOST_REPEATS {
         match writer.write(bytes) {

@@ -3,7 +3,8 @@
 //! [`Source`], [`Sink`] and [`Clock`] promise which bytes moved, and that a call failed only if a
 //! count of faults rose. The ports over memory also say what each call returns, for tests and
 //! runs without a system; the `Std` ports wrap the system's own and promise nothing of what
-//! these hold; a call that a signal interrupts is made again. Nothing here allocates but the constructors that return [`NoMemory`].
+//! these hold; a call that a signal interrupts is made again. Nothing here allocates but the constructors that return
+//! [`NoMemory`].
 #![tactic(auto)]
 
 mod calls;

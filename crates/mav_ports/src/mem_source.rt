@@ -1,6 +1,6 @@
 // A source over memory that fails and idles at the calls that its maker lists.
 ghost use Rattle.std.specs.Prelude.{◌≡◌, ◌<◌, ◌++◌, Some, IsTrue, length, []};
-ghost use Rattle.mav_ports.specs.Gets.{given, GivesWithin, CountsFault, idles_after};
+ghost use Rattle.mav_ports.specs.Gets.{given, GivesWithin, CountsFault, idles_after, EndsOnly};
 ghost use Rattle.mav_ports.specs.MemReads.{reads_from_start, read_answer, after_read, buffer_after};
 
 use crate::calls::{call_after, is_listed};
@@ -99,6 +99,7 @@ impl Source for MemSource {
         ensures idles { self.new.idled ≡ idles_after result self.old.idled }
         ensures end { result ≡ Got.End → self.new.left ≡ [] }
         ensures ended { result ≡ Got.End → IsTrue self.new.ended }
+        ensures only_end { EndsOnly result (IsTrue self.old.ended) (IsTrue self.new.ended) }
         ensures stays { IsTrue self.old.ended → result ≡ Got.End }
 
         // The whole result, and the state afterwards.

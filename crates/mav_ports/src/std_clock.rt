@@ -51,7 +51,8 @@ impl<C: time::Clock + Drop> Clock for StdClock<C> {
 
 // The time in units since 2015, if there is one, or else the last one returned.
 fn answer(now: io::Result<SystemTime>, last: u64) -> u64
-    ensures { MatchResult now (λ time. result ≡ unwrap_or (units_at (system_time_nanos time)) last) (λ _. result ≡ last) }
+    ensures { MatchResult now (λ time. result ≡ unwrap_or (units_at (system_time_nanos time)) last)
+        (λ _. result ≡ last) }
 {
     match now {
         Ok(time) => units_since_2015(time).unwrap_or(last),

@@ -1,6 +1,6 @@
 // An infallible source over memory.
 ghost use Rattle.std.specs.Prelude.{◌≡◌, ◌<◌, ◌++◌, Some, IsTrue, false, length, []};
-ghost use Rattle.mav_ports.specs.Gets.{given, GivesWithin, CountsFault, idles_after};
+ghost use Rattle.mav_ports.specs.Gets.{given, GivesWithin, CountsFault, idles_after, EndsOnly};
 ghost use Rattle.mav_ports.specs.MemReads.{buffer_after};
 ghost use Rattle.mav_ports.specs.SureReads.{sure_answer, after_sure_read};
 
@@ -56,6 +56,7 @@ impl Source for SureSource {
         ensures idles { 0 ≡ idles_after result 0 }
         ensures end { result ≡ Got.End → self.new.left ≡ [] }
         ensures ended { result ≡ Got.End → IsTrue self.new.ended }
+        ensures only_end { EndsOnly result (IsTrue self.old.ended) (IsTrue self.new.ended) }
         ensures stays { IsTrue self.old.ended → result ≡ Got.End }
 
         // The whole result, and the state afterwards.

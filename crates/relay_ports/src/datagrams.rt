@@ -1,7 +1,7 @@
 // A UDP socket, with the datagram that it received last.
 ghost use Rattle.std.specs.Prelude.{◌≡◌, ◌<◌, ◌≤◌, length, vec_len, IfOk};
 
-use crate::sizes::datagram_size;
+use mav_links::datagram_size;
 use mio::net::UdpSocket;
 use std::alloc::{AllocError, Global};
 use std::io;
@@ -113,8 +113,8 @@ fn send_once(socket: &UdpSocket, bytes: &[u8], to: Option<SocketAddr>) -> io::Re
 }
 
 /// Sends the first frame in one datagram, to this peer or to the one that the socket is connected to, and returns how
-/// many bytes were taken: none if the system has no room now. What the network answers is no fault: the bytes are lost,
-/// as on a radio.
+/// many bytes were taken: none if the system has no room now. What the network answers is no fault: the bytes are
+/// lost, as on a radio.
 pub(crate) fn send(socket: &UdpSocket, bytes: &[u8], to: Option<SocketAddr>) -> usize
     requires { 0 < length bytes.now }
     ensures { result ≤ length bytes.now }

@@ -380,8 +380,8 @@ impl Port {
         count
     }
 
-    /// How many of these bytes are sent to this peer, or to the one that the port has. Where that is the latest sender,
-    /// and nobody has sent anything, they are lost.
+    /// How many of these bytes are sent to this peer, or to the one that the port has. Where that is the latest
+    /// sender, and nobody has sent anything, they are lost.
     pub(crate) fn send(&self, peer: Option<SocketAddr>, bytes: &[u8]) -> usize
         requires { 0 < length bytes.now }
         ensures { result ≤ length bytes.now }
