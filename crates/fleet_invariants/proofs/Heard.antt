@@ -19,7 +19,7 @@ use Rattle.fleet_world.specs.WorldState.{WorldState, stream_of}
 use Rattle.fleet_world.specs.Authentic.{WasSent}
 use Rattle.fleet_invariants.specs.Sound.{IsSent, Sound}
 use Rattle.fleet_invariants.specs.Kept.{IsAmong}
-use Rattle.fleet_invariants.specs.Laws.{EachHeard, SentKnown, AuthenticKnown, SentAuthentic, UnsentForeign}
+use Rattle.fleet_invariants.specs.Laws.{EachHeard, SentKnown, AuthenticKnown, KnownAuthentic, SentAuthentic, UnsentForeign}
 use Rattle.fleet_invariants.proofs.Lists.{some_is, nowhere, within}
 use Rattle.fleet_invariants.proofs.Moves.{steady_of}
 use Rattle.fleet_invariants.proofs.Hearing.{from_in_range, carries, serves_as}
@@ -101,6 +101,11 @@ authentic_known s sound bytes small authentic index p e v =
     let r = where_sent s.sent p (authentic index p e v) in
     among_sent s r.index r.packet p r.found
     (same_bytes_same_frame (extras_of profile_definitions) r.packet p (reads_alone s sound r.packet (sound.sent r.index r.packet r.found)) (each_alone (extras_of profile_definitions) _ (every_frame_reads_alone (extras_of profile_definitions) bytes small) index p e) r.same)
+
+pub known_authentic : KnownAuthentic
+known_authentic s bytes known index p e v =
+    let r = known index p e v in
+    was_sent s.sent p r.index r.found
 
 pub sent_authentic : SentAuthentic
 sent_authentic s sound i p found index q e v =

@@ -11,11 +11,13 @@ use Rattle.mav_messages.specs.Plans.{plan_of}
 use Rattle.mav_sign.specs.Signing.{Verifies, signature_of}
 use Rattle.mav_sign.specs.History.{previous_in}
 use Rattle.mav_sign.specs.Endpoints.{frames_of}
-use Rattle.mav_nodes.specs.News.{NodeEvent, Sends, Installs, Empties, Drops, Ends, Ends_command, Gives_param, Ends_params, Reaches, Captures, Ends_file}
+use Rattle.mav_nodes.specs.News.{NodeEvent, Sends, Installs, Empties, Drops, Ends, Ends_command, Gives_param}
+use Rattle.mav_nodes.specs.News.{Ends_params, Reaches, Captures, Ends_file}
 use Rattle.mav_nodes.specs.Links.{Outcome}
 use Rattle.mav_nodes.specs.Payloads.{plan_in, service_in, service_of}
 use Rattle.scenario_lines.specs.declared.lines.Line.{Line}
-use Rattle.scenario_lines.specs.declared.lines.Line.TheVariants.{Drone as DroneLine, Station as StationLine, Item as OneItem, Items, Command, Noise}
+use Rattle.scenario_lines.specs.declared.lines.Line.TheVariants.{Drone as DroneLine, Station as StationLine}
+use Rattle.scenario_lines.specs.declared.lines.Line.TheVariants.{Item as OneItem, Items, Command, Noise}
 use Rattle.scenario_lines.specs.declared.naming.Named.{Named}
 use Rattle.scenario_lines.specs.declared.naming.Role.TheVariants.{Drone as DroneRole, Station as StationRole}
 use Rattle.plan_ranges.specs.Ranges.{Is8, Is16, Is32, ItemInRange}
@@ -33,7 +35,8 @@ pub record IsAmong (sent : List Packet) (p : Packet) : Type 0 where
 -- each frame of some bytes that verifies is one of those that were sent
 abbrev pub Known : WorldState → List ℕ → Type 0
 Known s bytes =
-    (index : ℕ) (p : Packet) → slice_get (frames_of (final_parse (extras_of profile_definitions) false bytes)) index ≡ Some p
+    (index : ℕ) (p : Packet) → slice_get (frames_of (final_parse (extras_of profile_definitions) false bytes)) index
+    ≡ Some p
     → Verifies s.key p p.block → IsAmong s.sent p
 
 -- a sent frame is heard as it was sent: alone in its bytes, on link 0, at its timestamp, signed, with its message

@@ -13,7 +13,8 @@ use Rattle.plan_ranges.specs.Ranges.{Is8, Is16, Is32, NameInRange}
 use Rattle.command_proto.specs.Commander.{open_command}
 use Rattle.command_proto.specs.Executor.{last_in, has_no_room}
 use Rattle.mav_nodes.specs.Links.{Outcome}
-use Rattle.mav_nodes.specs.Nodes.{DroneSide, StationSide, station_begins, station_cancels, station_clears, station_gets, station_commands, station_lists_params}
+use Rattle.mav_nodes.specs.Nodes.{DroneSide, StationSide, station_begins, station_cancels, station_clears}
+use Rattle.mav_nodes.specs.Nodes.{station_gets, station_commands, station_lists_params}
 use Rattle.scenario_lines.specs.declared.lines.Line.{Line}
 use Rattle.scenario_lines.specs.Words.{words_of, word_at}
 use Rattle.scenario_lines.specs.LineContext.{LineContext}
@@ -23,7 +24,8 @@ use Rattle.scenario_lines.specs.Permits.{IsPermitted}
 use Rattle.node_reports.specs.Nodes.{Node, Drone, Station}
 use Rattle.node_reports.specs.Calls.{node_receives, node_beats, node_ticks, as_station, node_flies}
 use Rattle.fleet_world.specs.WorldState.{WorldState, stream_of, context_of}
-use Rattle.fleet_world.specs.Steps.{node_does, given_to, given_from, given_to_all, flows, calls, after_line, Stamps_spent}
+use Rattle.fleet_world.specs.Steps.{node_does, given_to, given_from, given_to_all, flows, calls, after_line}
+use Rattle.fleet_world.specs.Steps.{Stamps_spent}
 use Rattle.fleet_world.specs.Scenario.{Played, Not_done, played, lines_played}
 use Rattle.scenario_lines.specs.FileLines.{whole_lines, unfinished, without_cr}
 use Rattle.fleet_world.specs.Authentic.{AuthenticDone, AuthenticBytes, AuthenticLine, HoldsOfLines, Authentic}
@@ -43,14 +45,20 @@ SentKnown = (s : WorldState) → Sound s → (i : ℕ) (p : Packet) → slice_ge
 abbrev pub AuthenticKnown : Type 0
 AuthenticKnown = (s : WorldState) → Sound s → (bytes : List ℕ) → All Is8 bytes → AuthenticBytes s bytes → Known s bytes
 
+-- bytes that bring nothing that wasn't sent are authentic
+abbrev pub KnownAuthentic : Type 0
+KnownAuthentic = (s : WorldState) (bytes : List ℕ) → Known s bytes → AuthenticBytes s bytes
+
 -- noise that repeats a sent frame is authentic
 abbrev pub SentAuthentic : Type 0
-SentAuthentic = (s : WorldState) → Sound s → (i : ℕ) (p : Packet) → slice_get s.sent i ≡ Some p → AuthenticBytes s (encoding p)
+SentAuthentic = (s : WorldState) → Sound s → (i : ℕ) (p : Packet) → slice_get s.sent i ≡ Some p
+    → AuthenticBytes s (encoding p)
 
 -- and a frame that verifies under the key and wasn't sent is not
 abbrev pub UnsentForeign : Type 0
 UnsentForeign =
-    (s : WorldState) → Sound s → (p : Packet) → FitsFrame p → IsSealed (extras_of profile_definitions) false p → Verifies s.key p p.block
+    (s : WorldState) → Sound s → (p : Packet) → FitsFrame p → IsSealed (extras_of profile_definitions) false p
+    → Verifies s.key p p.block
     → ((i : ℕ) → slice_get s.sent i ≡ Some p → ⊥) → AuthenticBytes s (encoding p) → ⊥
 
 -- ---- what one node does
@@ -70,14 +78,18 @@ pub record EachCallKeeps (s : WorldState) : Type 0 where
   pub beats : CallKeeps s (node_beats s.clock)
   pub ticks : CallKeeps s (node_ticks s.clock)
   pub flies : CallKeeps s (node_flies s.clock)
-  pub begins : (k : ℕ) (node : StationSide) (drone : Name) (kind : ℕ) → NameInRange drone → Is8 kind → upload_refusal node.core kind s.draft ≡ None
+  pub begins : (k : ℕ) (node : StationSide) (drone : Name) (kind : ℕ) → NameInRange drone → Is8 kind
+      → upload_refusal node.core kind s.draft ≡ None
       → OrderKeeps s (record s { draft = [] }) k node (station_begins s.clock (stream_of drone) kind s.draft node)
   pub cancels : (k : ℕ) (node : StationSide) → OrderKeeps s s k node (station_cancels s.clock node)
-  pub clears : (k : ℕ) (node : StationSide) (drone : Name) (kind : ℕ) → NameInRange drone → Is8 kind → refusal node.core ≡ None
+  pub clears : (k : ℕ) (node : StationSide) (drone : Name) (kind : ℕ) → NameInRange drone → Is8 kind
+      → refusal node.core ≡ None
       → OrderKeeps s s k node (station_clears s.clock (stream_of drone) kind node)
-  pub gets : (k : ℕ) (node : StationSide) (drone : Name) (kind : ℕ) → NameInRange drone → Is8 kind → refusal node.core ≡ None
+  pub gets : (k : ℕ) (node : StationSide) (drone : Name) (kind : ℕ) → NameInRange drone → Is8 kind
+      → refusal node.core ≡ None
       → OrderKeeps s s k node (station_gets s.clock (stream_of drone) kind node)
-  pub commands : (k : ℕ) (node : StationSide) (drone : Name) (number word : ℕ) → NameInRange drone → Is16 number → Is32 word → open_command node.services.commander ≡ None
+  pub commands : (k : ℕ) (node : StationSide) (drone : Name) (number word : ℕ) → NameInRange drone → Is16 number
+      → Is32 word → open_command node.services.commander ≡ None
       → OrderKeeps s s k node (station_commands s.clock (stream_of drone) number word node)
   pub params : (k : ℕ) (node : StationSide) (drone : Name) → NameInRange drone → node.services.client.operation ≡ None
       → OrderKeeps s s k node (station_lists_params s.clock (stream_of drone) node)
@@ -88,11 +100,13 @@ EveryCallKeeps = (s : WorldState) → Sound s → EachCallKeeps s
 -- ---- what frames that are given do
 
 pub record EachGivingKeeps (s : WorldState) : Type 0 where
-  pub one : (i : ℕ) (p : Packet) → slice_get s.sent i ≡ Some p → (k : ℕ) → Keeps s (given_to s k p (slice_get s.nodes k))
+  pub one : (i : ℕ) (p : Packet) → slice_get s.sent i ≡ Some p → (k : ℕ)
+      → Keeps s (given_to s k p (slice_get s.nodes k))
   pub some : (i : ℕ) (p : Packet) → slice_get s.sent i ≡ Some p → (k n : ℕ) → Keeps s (given_from s k n p)
   pub all : (i : ℕ) (p : Packet) → slice_get s.sent i ≡ Some p → Keeps s (given_to_all s p)
   pub flow : (k : ℕ) → Keeps s (flows k s)
-  pub again : (i : ℕ) (p : Packet) → slice_get s.sent i ≡ Some p → (name : Name) → Keeps s (calls s name (node_receives s.clock (encoding p)))
+  pub again : (i : ℕ) (p : Packet) → slice_get s.sent i ≡ Some p → (name : Name)
+      → Keeps s (calls s name (node_receives s.clock (encoding p)))
 
 abbrev pub EveryGivingKeeps : Type 0
 EveryGivingKeeps = (s : WorldState) → Sound s → EachGivingKeeps s
@@ -107,20 +121,24 @@ EveryLineKeeps =
 -- a line that has no reason against it may be asked for, and its numbers are in range
 abbrev pub EveryReadLineFits : Type 0
 EveryReadLineFits =
-    (context : LineContext) (text : List ℕ) → reason_against context text ≡ None → IsPermitted context (line_of text) × LineFits (line_of text)
+    (context : LineContext) (text : List ℕ) → reason_against context text ≡ None → IsPermitted context (line_of text)
+    × LineFits (line_of text)
 
 -- ---- scenarios
 
 abbrev pub EveryLinesSound : Type 0
 EveryLinesSound =
-    (p : Played) → Sound p.state → (number : ℕ) (lines : List (List ℕ)) → HoldsOfLines AuthenticDone p number lines → Sound (lines_played p number lines).state
+    (p : Played) → Sound p.state → (number : ℕ) (lines : List (List ℕ)) → HoldsOfLines AuthenticDone p number lines
+    → Sound (lines_played p number lines).state
 
 abbrev pub EveryStateSound : Type 0
-EveryStateSound = (key : List ℕ) (ended : Bool) (bytes : List ℕ) → Authentic key ended bytes → Sound (played key ended bytes).state
+EveryStateSound = (key : List ℕ) (ended : Bool) (bytes : List ℕ) → Authentic key ended bytes
+    → Sound (played key ended bytes).state
 
 -- an authentic scenario never stops for want of a timestamp
 abbrev pub NoneSpent : Type 0
-NoneSpent = (key : List ℕ) (ended : Bool) (bytes : List ℕ) → Authentic key ended bytes → (played key ended bytes).stop ≢ Some (Not_done Stamps_spent)
+NoneSpent = (key : List ℕ) (ended : Bool) (bytes : List ℕ) → Authentic key ended bytes
+    → (played key ended bytes).stop ≢ Some (Not_done Stamps_spent)
 
 -- a drone has room for the last command of every stream: it rejects none for want of room
 abbrev pub EveryCommandHasRoom : Type 0

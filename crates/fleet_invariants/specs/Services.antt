@@ -13,8 +13,8 @@ use Rattle.mav_nodes.specs.Services.{DroneServices, StationServices}
 abbrev pub param_count : ℕ
 param_count = 40
 
--- a drone's: they are its node's, the last commands are of streams that it has heard, all answers were taken, and what its
--- simulator reports and its files are in range
+-- a drone's: they are its node's, the last commands are of streams that it has heard, all answers were taken, and what
+-- its simulator reports and its files are in range
 pub record SoundDroneServices (known : Stream → Bool) (me : Name) (v : DroneServices) : Type 0 where
   pub me_is : v.executor.me ≡ me
   pub executor : ExecutorInRange v.executor

@@ -1,6 +1,7 @@
 -- What holds of the state of every authentic scenario, after each step: names are distinct, numbers are in their
 -- ranges, what was sent is signed and reads back, and every timestamp that was admitted had been sent.
-use Rattle.std.specs.Prelude.{ℕ, ◌≡◌, ◌≤◌, ◌<◌, ◌+◌, ◌*◌, ◌^◌, Bool, true, List, length, map, slice_get, All, Some, None, IfSome, is_some, unwrap_or}
+use Rattle.std.specs.Prelude.{ℕ, ◌≡◌, ◌≤◌, ◌<◌, ◌+◌, ◌*◌, ◌^◌, Bool, true, List, length, map, slice_get, All, Some}
+use Rattle.std.specs.Prelude.{None, IfSome, is_some, unwrap_or}
 use Rattle.mav_nodes.specs.Nodes.{DroneSide, StationSide}
 use Rattle.std.specs.List.{list_any, IsDistinct}
 use Rattle.mav_names.specs.declared.names.Name.{Name}
@@ -61,7 +62,8 @@ pub record WasStamped (s : WorldState) (stream : Stream) (stamp : ℕ) : Type 0 
   pub stream_is : stream_of packet.from ≡ stream
   pub stamp_is : sent.stamp ≡ stamp
 
--- no timestamp is ahead of the clock by more than the frames that were sent, and what a drone that starts again leaves out
+-- no timestamp is ahead of the clock by more than the frames that were sent, and what a drone that starts again leaves
+-- out
 abbrev pub ahead : WorldState → ℕ
 ahead s = length s.sent + 5001 * s.restarts
 
@@ -85,7 +87,8 @@ pub record SoundLink (s : WorldState) (link : Link) : Type 0 where
 -- a drone keeps results, and an open upload, of streams that it has heard alone, and one result of each
 pub record Roomy (known : Stream → Bool) (d : DroneState) : Type 0 where
   pub apart : IsDistinct same_stream (map (λ (r : UploadResult). r.stream) d.results)
-  pub results : (stream : Stream) → list_any (same_stream stream) (map (λ (r : UploadResult). r.stream) d.results) ≡ true → known stream ≡ true
+  pub results : (stream : Stream) → list_any (same_stream stream) (map (λ (r : UploadResult). r.stream) d.results)
+      ≡ true → known stream ≡ true
   pub upload : IfSome d.upload (λ u. known u.stream ≡ true)
 
 abbrev pub has_heard : Link → Stream → Bool
@@ -115,7 +118,8 @@ SoundCore (Drone n) = SoundDrone n
 SoundCore (Station n) = SoundStation n
 
 pub record Sound (s : WorldState) : Type 0 where
-  pub apart : (i j : ℕ) (a b : Node) → slice_get s.nodes i ≡ Some a → slice_get s.nodes j ≡ Some b → node_name a ≡ node_name b → i ≡ j
+  pub apart : (i j : ℕ) (a b : Node) → slice_get s.nodes i ≡ Some a → slice_get s.nodes j ≡ Some b
+      → node_name a ≡ node_name b → i ≡ j
   pub links : (i : ℕ) (a : Node) → slice_get s.nodes i ≡ Some a → SoundLink s (link_of a)
   pub cores : (i : ℕ) (a : Node) → slice_get s.nodes i ≡ Some a → SoundCore a
   pub sent : (i : ℕ) (p : Packet) → slice_get s.sent i ≡ Some p → IsSent s p

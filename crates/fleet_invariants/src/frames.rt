@@ -1,5 +1,6 @@
 // How frames are heard.
-ghost use Rattle.fleet_invariants.specs.Laws.{EachHeard, SentKnown, AuthenticKnown, SentAuthentic, UnsentForeign};
+ghost use Rattle.fleet_invariants.specs.Laws.{EachHeard, SentKnown, AuthenticKnown, KnownAuthentic, SentAuthentic};
+ghost use Rattle.fleet_invariants.specs.Laws.{UnsentForeign};
 
 /// A frame that was sent is heard as it was sent: alone in its bytes, signed, with its message.
 pub fn every_sent_frame()
@@ -7,9 +8,11 @@ pub fn every_sent_frame()
     ensures known { SentKnown }
 {}
 
-/// A frame of authentic bytes that verifies is one of those that were sent.
+/// A frame of authentic bytes that verifies is one of those that were sent, and bytes of which each such frame was
+/// sent are authentic.
 pub fn every_authentic_frame()
-    ensures { AuthenticKnown }
+    ensures known { AuthenticKnown }
+    ensures authentic { KnownAuthentic }
 {}
 
 /// Bytes that repeat a sent frame are authentic.

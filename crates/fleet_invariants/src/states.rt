@@ -1,5 +1,6 @@
 // What scenarios lead to.
-ghost use Rattle.fleet_invariants.specs.Laws.{EveryLinesSound, EveryStateSound, NoneSpent, EveryCommandHasRoom, EveryQuietAuthentic};
+ghost use Rattle.fleet_invariants.specs.Laws.{EveryLinesSound, EveryStateSound, NoneSpent, EveryCommandHasRoom};
+ghost use Rattle.fleet_invariants.specs.Laws.{EveryQuietAuthentic};
 
 /// The state of each authentic scenario is sound, and so is that of each of its prefixes.
 pub fn every_state()

@@ -31,12 +31,12 @@ use Rattle.live_node.specs.declared.run_log.RunLog.{RunLog}
 use Rattle.live_node.specs.Nodes.{IsLive, IsKeptBy}
 use Rattle.live_node.specs.Calls.{LiveCall, call_does, calls_do, keeps_in, IsTime, ticks_with, ticks_over}
 use Rattle.live_node.specs.Texts.{frames_text, lines_of, count_over, ending_over}
-use Rattle.live_node.specs.Ports.{SentBy, PrintedBy, FaultsBy, end_by, IsTellingEnd}
+use Rattle.live_node.specs.Ports.{SentBy, SentDespite, PrintedBy, FaultsBy, end_by, IsTellingEnd}
 use Rattle.live_node.specs.Parts.{CallFails}
 use Rattle.live_node.specs.GivenUp.{StoreIs, CallLeaves}
 use Rattle.live_node.specs.Runs.{Outside, outside, Stores, KeptIn, KeptOver, Kept, StoredBy, Written}
 use Rattle.live_node.specs.Progress.{Said, Output, CallsStopped, due_call, counted}
-use Rattle.live_node.proofs.Endings.{sent_by, printed_by, sent_after, printed_after, whole_after}
+use Rattle.live_node.proofs.Endings.{sent_by, despite_by, printed_by, sent_after, despite_after, printed_after, whole_after}
 use Rattle.live_node.proofs.Texts.{frames-append, lines-append, count-append, ending-append}
 use Rattle.live_node.proofs.Known.{known}
 
@@ -231,6 +231,8 @@ written_left {S} {stores} {before} {old} {now} {start} {made} {call} {was} {live
         events = o.events ++ h.events;
         run = h.run;
         sent = subst (SentBy end first.link.sent m.sent) (sym (frames-append o.events h.events)) (sent_after end first.link.sent l.sent m.sent (frames_text (map shown o.events)) (frames_text (map shown h.events)) o.sent h.told.sent);
+        despite = subst (SentDespite end first.link m) (sym (frames-append o.events h.events))
+            (despite_after end first.link l m (frames_text (map shown o.events)) (frames_text (map shown h.events)) o.sent o.faults h.told.despite);
         printed = subst (PrintedBy end first.text y) (ap (λ (more : List ℕ). lines_of (node_name start) 0 o.events ++ more) lines ∙ sym (lines-append (node_name start) 0 o.events h.events))
             (printed_after end first.text x y (lines_of (node_name start) 0 o.events) (lines_of t.name t.sent h.events) o.printed h.told.printed);
         time = c.stays ∙ o.time;
@@ -248,6 +250,7 @@ written {S} stores before now end start made live t first last o other = record 
   events = o.events;
   run = o.run;
   sent = sent_by end first.link.sent last.link.sent (frames_text (map shown o.events)) o.sent;
+  despite = despite_by end first.link last.link (frames_text (map shown o.events)) o.sent;
   printed = printed_by end first.text last.text (lines_of (node_name start) 0 o.events) o.printed;
   time = o.time;
   kept = o.kept;
@@ -304,6 +307,7 @@ regroup stores before now end start xs ys first last e w = record {
   events = w.events;
   run = ap (λ (calls : List LiveCall). calls_do calls start) (sym e) ∙ w.run;
   sent = w.sent;
+  despite = w.despite;
   printed = w.printed;
   time = w.time;
   kept = subst (Kept stores before now) e w.kept;
@@ -322,6 +326,7 @@ not_called stores before old now start made call live t first last fault o serve
     events = o.events;
     run = ap (λ (calls : List LiveCall). calls_do calls start) (append-nil made) ∙ o.run;
     sent = sent_by (Some (end_by fault)) first.link.sent last.link.sent (frames_text (map shown o.events)) o.sent;
+    despite = despite_by (Some (end_by fault)) first.link last.link (frames_text (map shown o.events)) o.sent;
     printed = printed_by (Some (end_by fault)) first.text last.text (lines_of (node_name start) 0 o.events) o.printed;
     time = o.time;
     kept = subst (Kept stores before now) (sym (append-nil made)) (kept_on stores before old now made o.kept serves);

@@ -1,12 +1,14 @@
 -- What was written by the end of a run.
-use Rattle.std.proofs.Common.{◌≡◌, ℕ, List, [], ◌++◌, Option, Some, None, ap, ◌∙◌, append_assoc}
+use Rattle.std.proofs.Common.{◌≡◌, ℕ, List, [], ◌++◌, Option, Some, None, ap, ◌∙◌, append_assoc, subst, inl, inr}
 use Rattle.std.specs.Io.KnownBytes.{append_known}
+use Rattle.mav_ports.specs.Counts.{Rose}
 use Rattle.mav_ports.specs.Puts.{SentPrefix}
+use Rattle.mav_links.specs.Links.{LinkState}
 use Rattle.mav_ports.proofs.Known.{append_known_twice, sent_piece}
 use Rattle.run_status.specs.declared.live_ends.LiveEnd.TheVariants.{RefusedWith, NoAnswer, StoreFault, PortTurns, PortFault}
 use Rattle.run_status.specs.declared.run_ends.RunEnd.{RunEnd}
 use Rattle.run_status.specs.declared.run_ends.RunEnd.TheVariants.{Usage, Stopped, ReadFault, WriteFault, NoMemory, TurnsSpent, Live}
-use Rattle.live_node.specs.Ports.{SentBy, PrintedBy}
+use Rattle.live_node.specs.Ports.{SentBy, SentDespite, PrintedBy}
 
 -- all of it is a prefix of it
 pub whole_prefix : (before after : Option (List ℕ)) (text : List ℕ) → after ≡ append_known before text → SentPrefix before after text
@@ -75,3 +77,27 @@ printed_after (Some WriteFault) before middle after text next e h = prefix_after
 printed_after (Some NoMemory) before middle after text next e h = prefix_after before middle after text next e h
 printed_after (Some TurnsSpent) before middle after text next e h = whole_after before middle after text next e h
 printed_after (Some (Live end)) before middle after text next e h = whole_after before middle after text next e h
+
+-- all frames were sent, whatever the output does
+pub despite_by : (end : Option RunEnd) (before after : LinkState) (text : List ℕ) → after.sent ≡ append_known before.sent text
+    → SentDespite end before after text
+despite_by None before after text e = tt
+despite_by (Some Usage) before after text e = tt
+despite_by (Some (Stopped error)) before after text e = tt
+despite_by (Some ReadFault) before after text e = tt
+despite_by (Some WriteFault) before after text e = inl e
+despite_by (Some NoMemory) before after text e = tt
+despite_by (Some TurnsSpent) before after text e = tt
+despite_by (Some (Live end)) before after text e = tt
+
+pub despite_after : (end : Option RunEnd) (before middle after : LinkState) (text next : List ℕ) → middle.sent ≡ append_known before.sent text
+    → middle.faults ≡ before.faults → SentDespite end middle after next → SentDespite end before after (text ++ next)
+despite_after None before middle after text next e same h = tt
+despite_after (Some Usage) before middle after text next e same h = tt
+despite_after (Some (Stopped error)) before middle after text next e same h = tt
+despite_after (Some ReadFault) before middle after text next e same h = tt
+despite_after (Some WriteFault) before middle after text next e same (inl h) = inl (whole_after before.sent middle.sent after.sent text next e h)
+despite_after (Some WriteFault) before middle after text next e same (inr rose) = inr (subst (λ (n : ℕ). Rose n after.faults) same rose)
+despite_after (Some NoMemory) before middle after text next e same h = tt
+despite_after (Some TurnsSpent) before middle after text next e same h = tt
+despite_after (Some (Live end)) before middle after text next e same h = tt

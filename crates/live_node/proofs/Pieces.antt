@@ -27,7 +27,7 @@ use Rattle.live_node.specs.Parts.{PieceFails}
 use Rattle.live_node.specs.GivenUp.{PieceLeaves}
 use Rattle.live_node.specs.Runs.{Outside, Stores, Kept, IsSpentAt, IsSpentCall}
 use Rattle.live_node.specs.Progress.{Output, CallsStopped, PieceStopped}
-use Rattle.live_node.proofs.Endings.{sent_by, printed_by}
+use Rattle.live_node.proofs.Endings.{sent_by, despite_by, printed_by}
 use Rattle.live_node.proofs.Calls.{kept_on, stored_at_fault}
 use Rattle.live_node.proofs.Lasts.{gives_up}
 use Rattle.live_node.proofs.GivenUp.{read_leaves}
@@ -78,6 +78,7 @@ piece_broken {S} {stores} {before} {old} {now} {taken} {given} {piece} {start} {
       events = o.events;
       run = ap (λ (calls : List LiveCall). calls_do calls start) (append-nil made) ∙ o.run;
       sent = sent_by (Some (end_by fault)) first.link.sent last.link.sent (frames_text (map shown o.events)) o.sent;
+      despite = despite_by (Some (end_by fault)) first.link last.link (frames_text (map shown o.events)) o.sent;
       printed = printed_by (Some (end_by fault)) first.text last.text (lines_of (node_name start) 0 o.events) o.printed;
       time = o.time;
       kept = subst (Kept stores before now) (sym (append-nil made)) (kept_on stores before old now made o.kept serves);

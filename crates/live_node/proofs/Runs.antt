@@ -25,7 +25,7 @@ use Rattle.live_node.specs.Ports.{SameRead}
 use Rattle.live_node.specs.Runs.{Outside, Stores, HeardIn, RunAt}
 use Rattle.live_node.specs.Progress.{Output, Between, CallsStopped}
 use Rattle.live_node.proofs.Calls.{stored_by}
-use Rattle.live_node.proofs.Endings.{sent_by, printed_by}
+use Rattle.live_node.proofs.Endings.{sent_by, despite_by, printed_by}
 use Rattle.live_node.proofs.Lasts.{heard_all, calls_at_start}
 use Rattle.live_node.proofs.Results.{because}
 use Rattle.live_node.proofs.Waits.{output_regroup}
@@ -124,6 +124,7 @@ run_over stores before now start end opening turns rests live t first last then 
         events = o.events;
         run = o.run;
         sent = sent_by end first.link.sent then.link.sent (frames_text (map shown o.events)) (still.sent ∙ o.sent);
+        despite = despite_by end first.link then.link (frames_text (map shown o.events)) (still.sent ∙ o.sent);
         printed = printed_by end first.text then.text (lines_of (node_name start) 0 o.events) (still.text ∙ o.printed);
         time = still.time ∙ o.time;
         kept = o.kept;

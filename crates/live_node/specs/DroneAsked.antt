@@ -26,14 +26,16 @@ pub record Alone {A : Type 0} (before after : List A) (first last : A) : Type 0 
   pub now : after ≡ last ∷ []
 
 -- a drone ran over the only store
-pub record StoredRun {B : Type 0} (stores : Stores B) (key : List ℕ) (plan : DronePlan) (before after : List B) (end : Option RunEnd) (port_before port_after : Outside) : Type 0 where
+pub record StoredRun {B : Type 0} (stores : Stores B) (key : List ℕ) (plan : DronePlan) (before after : List B)
+    (end : Option RunEnd) (port_before port_after : Outside) : Type 0 where
   pub first : B
   pub last : B
   pub alone : Alone before after first last
   pub run : DroneRuns stores key plan first last end port_before port_after
 
 -- over the store that is named, or over an empty one in memory
-abbrev pub RunsOver : {B : Type 0} → Stores B → (named : Bool) → List ℕ → DronePlan → (before after : List B) → Option RunEnd → (first last : Outside) → Type 0
+abbrev pub RunsOver : {B : Type 0} → Stores B → (named : Bool) → List ℕ → DronePlan → (before after : List B)
+    → Option RunEnd → (first last : Outside) → Type 0
 RunsOver stores true key plan before after end first last = StoredRun stores key plan before after end first last
 RunsOver stores false key plan before after end first last = NewDroneRuns key plan end first last × (after ≡ before)
 
@@ -48,7 +50,9 @@ pub record Devices (A B : Type 0) : Type 1 where
   pub time_before : Option ℕ
   pub time_after : Option ℕ
 
-abbrev pub devices : {A B C : Type 0} → (A → LinkState) → Stores B → (C → Option ℕ) → (ports_before ports_after : List A) → (keepers_before keepers_after : List B) → (clock_before clock_after : C) → Devices A B
+abbrev pub devices : {A B C : Type 0} → (A → LinkState) → Stores B → (C → Option ℕ)
+    → (ports_before ports_after : List A) → (keepers_before keepers_after : List B) → (clock_before clock_after : C)
+    → Devices A B
 devices state stores always ports_before ports_after keepers_before keepers_after clock_before clock_after = record {
   state = state;
   stores = stores;
@@ -61,7 +65,8 @@ devices state stores always ports_before ports_after keepers_before keepers_afte
 }
 
 -- it ran under a key, at the only port, and ended so
-pub record Flown {A B : Type 0} (d : Devices A B) (asked : Asked) (out : Output) (end : Option RunEnd) (key : List ℕ) : Type 0 where
+pub record Flown {A B : Type 0} (d : Devices A B) (asked : Asked) (out : Output) (end : Option RunEnd)
+    (key : List ℕ) : Type 0 where
   pub plan : DronePlan
   pub is : DroneOf asked plan
   pub first : A

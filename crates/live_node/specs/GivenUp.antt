@@ -33,5 +33,6 @@ NodeGivenUp clock kept contents packets (Station n) = Unit {0}
 -- at a piece
 abbrev pub PieceLeaves : ℕ → List ℕ → (List Bool → Type 0) → Option (List ℕ) → LiveNode → Type 0
 PieceLeaves clock piece kept contents live =
-    (node : Node) (taken : List ℕ) (given events : List Event) → IsLive node live → HasHeard taken given live → GrowsBy (extras_at node) (taken ++ piece) given events
+    (node : Node) (taken : List ℕ) (given events : List Event) → IsLive node live → HasHeard taken given live
+    → GrowsBy (extras_at node) (taken ++ piece) given events
     → NodeGivenUp clock kept contents (frames_of events) node

@@ -9,13 +9,19 @@ use Rattle.plan_items.specs.declared.kinds.PlanKind.TheVariants.{Mission, Fence,
 use Rattle.plan_items.specs.declared.plans.Plan.{Plan}
 use Rattle.plan_items.specs.Plans.{items_of}
 use Rattle.mav_nodes.specs.declared.orders.Order.{Order}
-use Rattle.mav_nodes.specs.declared.orders.Order.TheVariants.{Begin, Clear as ClearOrder, Get as GetOrder, Command as CommandOrder, ParamRead as ReadOrder, ParamSet as SetOrder, ParamList as ListOrder, File as FileOrder}
+use Rattle.mav_nodes.specs.declared.orders.Order.TheVariants.{Begin, Clear as ClearOrder, Get as GetOrder}
+use Rattle.mav_nodes.specs.declared.orders.Order.TheVariants.{Command as CommandOrder, ParamRead as ReadOrder}
+use Rattle.mav_nodes.specs.declared.orders.Order.TheVariants.{ParamSet as SetOrder, ParamList as ListOrder}
+use Rattle.mav_nodes.specs.declared.orders.Order.TheVariants.{File as FileOrder}
 use Rattle.mav_nodes.specs.declared.orders.FileOp.TheVariants.{List as List_files, Fetch, Store, Remove}
 use Rattle.live_node.specs.declared.order_words.Contents.{Contents as FileContents}
 use Rattle.command_line.specs.declared.operations.PlanWord.{PlanWord}
-use Rattle.command_line.specs.declared.operations.PlanWord.TheVariants.{Mission as MissionWord, Fence as FenceWord, Rally as RallyWord}
+use Rattle.command_line.specs.declared.operations.PlanWord.TheVariants.{Mission as MissionWord, Fence as FenceWord}
+use Rattle.command_line.specs.declared.operations.PlanWord.TheVariants.{Rally as RallyWord}
 use Rattle.command_line.specs.declared.operations.Operation.{Operation}
-use Rattle.command_line.specs.declared.operations.Operation.TheVariants.{Upload, Get, Clear, Command, ParamList, ParamRead, ParamSet, FileList, FileGet, FilePut, FileRemove}
+use Rattle.command_line.specs.declared.operations.Operation.TheVariants.{Upload, Get, Clear, Command, ParamList}
+use Rattle.command_line.specs.declared.operations.Operation.TheVariants.{ParamRead, ParamSet, FileList, FileGet}
+use Rattle.command_line.specs.declared.operations.Operation.TheVariants.{FilePut, FileRemove}
 
 abbrev pub kind_of : PlanWord → PlanKind
 kind_of MissionWord = Mission
@@ -50,7 +56,8 @@ OrdersFor (Clear kind) drone contents order = order ≡ ClearOrder drone (option
 OrdersFor (Command number word) drone contents order = order ≡ CommandOrder drone number word
 OrdersFor ParamList drone contents order = order ≡ ListOrder drone
 OrdersFor (ParamRead id) drone contents order = order ≡ ReadOrder drone id
-OrdersFor (ParamSet id kind word) drone contents order = order ≡ SetOrder drone (record { id = id; ty = kind; word = from_le_bytes w32 word })
+OrdersFor (ParamSet id kind word) drone contents order =
+    order ≡ SetOrder drone (record { id = id; ty = kind; word = from_le_bytes w32 word })
 OrdersFor FileList drone contents order = order ≡ FileOrder drone List_files
 OrdersFor (FileGet name) drone contents order = order ≡ FileOrder drone (Fetch name)
 OrdersFor (FilePut name) drone contents order = Stores drone name contents.bytes order

@@ -1,7 +1,8 @@
 -- An order to a station, and why it isn't followed.
 use Rattle.std.specs.Prelude.{◌≡◌, ◌||◌, ℕ, Bool, true, false, None, is_some}
 use Rattle.plan_upload.specs.declared.faults.OpFault.{OpFault}
-use Rattle.plan_upload.specs.declared.faults.OpFault.TheVariants.{Busy, EmptyPlan, PingsSpent, NotFit, NoMemory as NoBuffer}
+use Rattle.plan_upload.specs.declared.faults.OpFault.TheVariants.{Busy, EmptyPlan, PingsSpent, NotFit}
+use Rattle.plan_upload.specs.declared.faults.OpFault.TheVariants.{NoMemory as NoBuffer}
 use Rattle.mav_nodes.specs.declared.orders.Order.{Order}
 use Rattle.mav_nodes.specs.declared.faults.OrderFault.{OrderFault}
 use Rattle.mav_nodes.specs.declared.faults.OrderFault.TheVariants.{Begin, Op, Command, Param, File, Node as NodeFails}
@@ -15,12 +16,13 @@ use Rattle.run_status.specs.declared.run_ends.RunEnd.TheVariants.{Stopped, NoMem
 use Rattle.live_node.specs.Calls.{node_obeys}
 use Rattle.live_node.specs.Ports.{end_by}
 
--- a station refuses an order: its core does, or a command or a question about parameters is open, or what it asks of files is
--- refused
+-- a station refuses an order: its core does, or a command or a question about parameters is open, or what it asks of
+-- files is refused
 abbrev pub station_refuses : StationSide → Order → Bool
 station_refuses n order =
     is_some (order_refusal n.core order)
-    || (is_some (command_refusal n.services order) || (params_refusal n.services order || is_some (file_refusal n.services order)))
+    || (is_some (command_refusal n.services order)
+    || (params_refusal n.services order || is_some (file_refusal n.services order)))
 
 abbrev pub node_refuses : Node → Order → Bool
 node_refuses (Drone n) order = false

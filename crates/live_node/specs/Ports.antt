@@ -5,7 +5,8 @@ use Rattle.mav_ports.specs.Counts.{Rose}
 use Rattle.mav_ports.specs.Puts.{SentPrefix}
 use Rattle.mav_links.specs.Links.{LinkState}
 use Rattle.mav_nodes.specs.declared.faults.NodeFault.{NodeFault}
-use Rattle.mav_nodes.specs.declared.faults.NodeFault.TheVariants.{StampsSpent as NoStamp, Store, NoMemory as NoNodeMemory}
+use Rattle.mav_nodes.specs.declared.faults.NodeFault.TheVariants.{StampsSpent as NoStamp, Store}
+use Rattle.mav_nodes.specs.declared.faults.NodeFault.TheVariants.{NoMemory as NoNodeMemory}
 use Rattle.run_status.specs.declared.live_ends.LiveEnd.TheVariants.{PortFault, StoreFault}
 use Rattle.run_status.specs.declared.input_errors.InputError.TheVariants.{StampsSpent}
 use Rattle.run_status.specs.declared.run_ends.RunEnd.{RunEnd}
@@ -18,6 +19,12 @@ SentBy (Some NoMemory) before after frames = SentPrefix before after frames
 SentBy (Some (Live PortFault)) before after frames = SentPrefix before after frames
 SentBy other before after frames = after ≡ append_known before frames
 
+-- an output that failed takes no frame from the port: all of them were sent, unless the port failed too
+abbrev pub SentDespite : Option RunEnd → (before after : LinkState) → List ℕ → Type 0
+SentDespite (Some WriteFault) before after frames =
+    (after.sent ≡ append_known before.sent frames) ⊎ Rose before.faults after.faults
+SentDespite other before after frames = Unit {0}
+
 -- the output's lines: all of them, or a prefix if the output failed, or memory ran out
 abbrev pub PrintedBy : Option RunEnd → Option (List ℕ) → Option (List ℕ) → List ℕ → Type 0
 PrintedBy (Some WriteFault) before after lines = SentPrefix before after lines
@@ -28,7 +35,8 @@ PrintedBy other before after lines = after ≡ append_known before lines
 abbrev pub FaultsBy : Option RunEnd → (port_before port_after out_before out_after : ℕ) → Type 0
 FaultsBy (Some WriteFault) port_before port_after out_before out_after = Rose out_before out_after
 FaultsBy (Some NoMemory) port_before port_after out_before out_after = out_after ≡ out_before
-FaultsBy (Some (Live PortFault)) port_before port_after out_before out_after = Rose port_before port_after × (out_after ≡ out_before)
+FaultsBy (Some (Live PortFault)) port_before port_after out_before out_after = Rose port_before port_after
+    × (out_after ≡ out_before)
 FaultsBy other port_before port_after out_before out_after = (port_after ≡ port_before) × (out_after ≡ out_before)
 
 -- the count of the output alone

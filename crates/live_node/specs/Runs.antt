@@ -21,9 +21,11 @@ use Rattle.live_node.specs.Calls.{LiveCall, extras_at, call_does, calls_do, node
 use Rattle.live_node.specs.declared.nodes.LiveNode.{LiveNode}
 use Rattle.live_node.specs.Nodes.{IsLive, IsKeptBy}
 use Rattle.live_node.specs.GivenUp.{NodeGivenUp, CallLeaves}
-use Rattle.live_node.specs.Turns.{Turn, Reads, Waits, Breaks, turn_bytes, turn_events, idles_over, pauses_over, ReadFrom, IsPieceLength, IsHeard, AllHeard, Rest, calls_of, last_calls, AreTurnsTimed, AreRestsTimed}
+use Rattle.live_node.specs.Turns.{Turn, Reads, Waits, Breaks, turn_bytes, turn_events, idles_over, pauses_over}
+use Rattle.live_node.specs.Turns.{ReadFrom, IsPieceLength, IsHeard, AllHeard, Rest, calls_of, last_calls}
+use Rattle.live_node.specs.Turns.{AreTurnsTimed, AreRestsTimed}
 use Rattle.live_node.specs.Texts.{frames_text, lines_of}
-use Rattle.live_node.specs.Ports.{SentBy, PrintedBy, FaultsBy}
+use Rattle.live_node.specs.Ports.{SentBy, SentDespite, PrintedBy, FaultsBy}
 
 -- the port, the text that the output was sent, and the one time that the clock returns, if that is known
 pub record Outside : Type 0 where
@@ -34,14 +36,17 @@ pub record Outside : Type 0 where
 abbrev pub outside : LinkState → Option (List ℕ) → Option ℕ → Outside
 outside link text time = record { link = link; text = text; time = time }
 
--- how a part of a run ends: only for one of these reasons, with the counts of faults that this says, and the clock's one time stays
-pub record Ends {A : Type 0} (MayEnd : RunEnd → Type 0) (result : Result A RunEnd) (first last : Outside) (out_before out_after : ℕ) : Type 0 where
+-- how a part of a run ends: only for one of these reasons, with the counts of faults that this says, and the clock's
+-- one time stays
+pub record Ends {A : Type 0} (MayEnd : RunEnd → Type 0) (result : Result A RunEnd) (first last : Outside)
+    (out_before out_after : ℕ) : Type 0 where
   pub end : IfErr result MayEnd
   pub faults : FaultsBy (result_err result) first.link.faults last.link.faults out_before out_after
   pub stays : last.time ≡ first.time
 
 -- a run on a link between two moments: what it did, how it may end, and which counts of faults rose
-pub record LinkRun (Did : Option RunEnd → (first last : Outside) → Type 0) (MayEnd : RunEnd → Type 0) (result : Result (Unit {0}) RunEnd) (first last : Outside) (out_before out_after : ℕ) : Type 0 where
+pub record LinkRun (Did : Option RunEnd → (first last : Outside) → Type 0) (MayEnd : RunEnd → Type 0)
+    (result : Result (Unit {0}) RunEnd) (first last : Outside) (out_before out_after : ℕ) : Type 0 where
   pub runs : Did (result_err result) first last
   pub end : IfErr result MayEnd
   pub faults : FaultsBy (result_err result) first.link.faults last.link.faults out_before out_after
@@ -53,7 +58,8 @@ pub record Stores (S : Type 0) : Type 1 where
   pub contents : S → Option (List ℕ)
 
 abbrev pub stores_of : {S : Type 0} → (S → ℕ) → (S → Type 0) → (S → Option (List ℕ)) → Stores S
-stores_of faults is_infallible contents = record { faults = faults; is_infallible = is_infallible; contents = contents }
+stores_of faults is_infallible contents =
+    record { faults = faults; is_infallible = is_infallible; contents = contents }
 
 -- the store kept all that a call changed, or a call of the store failed in it
 pub record KeptIn {S : Type 0} (stores : Stores S) (before now : S) (call : LiveCall) : Type 0 where
@@ -63,14 +69,15 @@ pub record KeptIn {S : Type 0} (stores : Stores S) (before now : S) (call : Live
 -- the same of each of these calls, with the store as it was before that call and after it
 abbrev pub KeptOver : {S : Type 0} → Stores S → (before now : S) → List LiveCall → Type 0
 KeptOver stores before now [] = Serves stores.faults stores.is_infallible before now
-KeptOver {S} stores before now (call ∷ calls) = (next : S) × KeptIn stores before next call × KeptOver stores next now calls
+KeptOver {S} stores before now (call ∷ calls) = (next : S) × KeptIn stores before next call
+    × KeptOver stores next now calls
 
 pub record Kept {S : Type 0} (stores : Stores S) (before now : S) (made : List LiveCall) : Type 0 where
   pub serves : Serves stores.faults stores.is_infallible before now
   pub each : KeptOver stores before now made
 
--- what a store has at the end of a run: what the node has stored with the calls that were made. At 7, 10 and 13 the node was given
--- up in a call that may have saved: `LeavesIn` says what it left
+-- what a store has at the end of a run: what the node has stored with the calls that were made. At 7, 10 and 13 the
+-- node was given up in a call that may have saved: `LeavesIn` says what it left
 abbrev pub StoredBy : Option RunEnd → Option (List ℕ) → Node → Type 0
 StoredBy (Some (Stopped StampsSpent)) contents node = Unit {0}
 StoredBy (Some NoMemory) contents node = Unit {0}
@@ -78,11 +85,13 @@ StoredBy (Some (Live StoreFault)) contents node = Unit {0}
 StoredBy other contents node = (live : LiveNode) × IsLive node live × IsKeptBy contents live
 
 -- these calls were made; of their frames and lines was written what a run writes that ends so
-pub record Written {S : Type 0} (stores : Stores S) (before now : S) (end : Option RunEnd) (start : Node) (made : List LiveCall) (first last : Outside) : Type 0 where
+pub record Written {S : Type 0} (stores : Stores S) (before now : S) (end : Option RunEnd) (start : Node)
+    (made : List LiveCall) (first last : Outside) : Type 0 where
   pub node : Node
   pub events : List NodeEvent
   pub run : calls_do made start ≡ done node events
   pub sent : SentBy end first.link.sent last.link.sent (frames_text (map shown events))
+  pub despite : SentDespite end first.link last.link (frames_text (map shown events))
   pub printed : PrintedBy end first.text last.text (lines_of (node_name start) 0 events)
   pub time : last.time ≡ first.time
   pub kept : Kept stores before now made
@@ -94,7 +103,8 @@ pub record Written {S : Type 0} (stores : Stores S) (before now : S) (end : Opti
 abbrev pub IsSpentAt : List (ℕ × ℕ) → List ℕ → List Event → Turn → Node → List LiveCall → Type 0
 IsSpentAt extras taken given turn node (call ∷ rest) = call_does call node ≡ None
 IsSpentAt extras taken given (Breaks piece clock) node [] =
-    (events : List Event) → GrowsBy extras (taken ++ piece) given events → (keeps : List Bool) × (node_hears clock keeps (frames_of events) node ≡ None)
+    (events : List Event) → GrowsBy extras (taken ++ piece) given events → (keeps : List Bool)
+    × (node_hears clock keeps (frames_of events) node ≡ None)
 IsSpentAt extras taken given turn node [] = ⊥
 
 -- turns, and the last of them, after these bytes and events
@@ -123,21 +133,29 @@ RunsOutIn extras [] [] node rest = IsSpentCall node rest
 RunsOutIn extras (turn ∷ turns) [] node rest = SpentIn extras (turn ∷ turns) node rest
 
 -- a node that is given up at a piece leaves this in its store, which kept before what the calls made say
-pub record PieceLeft {S : Type 0} (stores : Stores S) (before now : S) (made : List LiveCall) (clock : ℕ) (events : List Event) (node : Node) : Type 0 where
+pub record PieceLeft {S : Type 0} (stores : Stores S) (before now : S) (made : List LiveCall) (clock : ℕ)
+    (events : List Event) (node : Node) : Type 0 where
   pub old : S
   pub kept : Kept stores before old made
-  pub given : NodeGivenUp clock (AllKept (HasFailed stores.faults stores.is_infallible old now)) (stores.contents now) (frames_of events) node
+  pub given : NodeGivenUp clock (AllKept (HasFailed stores.faults stores.is_infallible old now)) (stores.contents now)
+      (frames_of events) node
 
 -- one that is given up in a turn, or whose news weren't written
-abbrev pub LeavesAt : {S : Type 0} → Stores S → (before now : S) → List (ℕ × ℕ) → List ℕ → List Event → Turn → List LiveCall → Node → List LiveCall → Type 0
-LeavesAt stores before now extras taken given turn made node (call ∷ rest) = CallLeaves (stores.contents now) node (call ∷ rest)
-LeavesAt stores before now extras taken given (Reads piece events keeps clock) made node [] = CallLeaves (stores.contents now) node []
-LeavesAt stores before now extras taken given (Waits tick beat sim) made node [] = CallLeaves (stores.contents now) node []
+abbrev pub LeavesAt : {S : Type 0} → Stores S → (before now : S) → List (ℕ × ℕ) → List ℕ → List Event → Turn
+    → List LiveCall → Node → List LiveCall → Type 0
+LeavesAt stores before now extras taken given turn made node (call ∷ rest) =
+    CallLeaves (stores.contents now) node (call ∷ rest)
+LeavesAt stores before now extras taken given (Reads piece events keeps clock) made node [] =
+    CallLeaves (stores.contents now) node []
+LeavesAt stores before now extras taken given (Waits tick beat sim) made node [] =
+    CallLeaves (stores.contents now) node []
 LeavesAt stores before now extras taken given (Breaks piece clock) made node [] =
-    (events : List Event) → GrowsBy extras (taken ++ piece) given events → PieceLeft stores before now made clock events node
+    (events : List Event) → GrowsBy extras (taken ++ piece) given events
+    → PieceLeft stores before now made clock events node
 
 -- the same in the last turn
-pub record LeftIn {S : Type 0} (stores : Stores S) (before now : S) (extras : List (ℕ × ℕ)) (turns : List Turn) (made : List LiveCall) (node : Node) (rest : List LiveCall) : Type 0 where
+pub record LeftIn {S : Type 0} (stores : Stores S) (before now : S) (extras : List (ℕ × ℕ)) (turns : List Turn)
+    (made : List LiveCall) (node : Node) (rest : List LiveCall) : Type 0 where
   pub turn : Turn
   pub taken : List ℕ
   pub given : List Event
@@ -145,10 +163,12 @@ pub record LeftIn {S : Type 0} (stores : Stores S) (before now : S) (extras : Li
   pub left : LeavesAt stores before now extras taken given turn made node rest
 
 -- the same in the opening, in the last turn, or in the times that passed after the port's end
-abbrev pub LeavesIn : {S : Type 0} → Stores S → (before now : S) → List (ℕ × ℕ) → List Turn → List Rest → List LiveCall → Node → List LiveCall → Type 0
+abbrev pub LeavesIn : {S : Type 0} → Stores S → (before now : S) → List (ℕ × ℕ) → List Turn → List Rest → List LiveCall
+    → Node → List LiveCall → Type 0
 LeavesIn stores before now extras turns (r ∷ rests) made node rest = CallLeaves (stores.contents now) node rest
 LeavesIn stores before now extras [] [] made node rest = CallLeaves (stores.contents now) node rest
-LeavesIn stores before now extras (turn ∷ turns) [] made node rest = LeftIn stores before now extras (turn ∷ turns) made node rest
+LeavesIn stores before now extras (turn ∷ turns) [] made node rest =
+    LeftIn stores before now extras (turn ∷ turns) made node rest
 
 -- a node is given up for want of a timestamp or of memory, or by its store
 abbrev pub GivesUp : Option RunEnd → Type 0
@@ -196,7 +216,8 @@ IsWhole (Some (Live (PortTurns turns))) rest = rest ≡ []
 IsWhole other rest = Unit {0}
 
 -- a run after these turns and times: some of their calls were made, and the others no longer
-pub record RunAt {S : Type 0} (stores : Stores S) (before after : S) (start : Node) (end : Option RunEnd) (opening : List LiveCall) (turns : List Turn) (rests : List Rest) (first last : Outside) : Type 0 where
+pub record RunAt {S : Type 0} (stores : Stores S) (before after : S) (start : Node) (end : Option RunEnd)
+    (opening : List LiveCall) (turns : List Turn) (rests : List Rest) (first last : Outside) : Type 0 where
   pub made : List LiveCall
   pub rest : List LiveCall
   pub calls : made ++ rest ≡ calls_of opening turns rests
@@ -215,7 +236,8 @@ pub record RunAt {S : Type 0} (stores : Stores S) (before after : S) (start : No
   pub leaves : GivesUp end → LeavesIn stores before after (extras_at start) turns rests made written.node rest
 
 -- one run: an opening, turns, which are what the port gave, in order, and the times that passed after the port's end
-pub record LiveRun {S : Type 0} (stores : Stores S) (before after : S) (IsOpening : List LiveCall → Type 0) (may_rest : LinkState → Type 0) (start : Node) (end : Option RunEnd) (first last : Outside) : Type 0 where
+pub record LiveRun {S : Type 0} (stores : Stores S) (before after : S) (IsOpening : List LiveCall → Type 0)
+    (may_rest : LinkState → Type 0) (start : Node) (end : Option RunEnd) (first last : Outside) : Type 0 where
   pub opening : List LiveCall
   pub is_opening : IsOpening opening
   pub turns : List Turn

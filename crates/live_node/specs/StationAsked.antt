@@ -37,7 +37,8 @@ pub record StationOf (asked : Asked) (plan : StationPlan) (task : Task) : Type 0
   pub turns : plan.turns ≡ 1000000
 
 -- it ran under a key with the contents of its file, at the only port, and ended so
-pub record Stationed {A B : Type 0} (d : Devices A B) (asked : Asked) (out : Output) (end : Option RunEnd) (key : List ℕ) (contents : Contents) : Type 0 where
+pub record Stationed {A B : Type 0} (d : Devices A B) (asked : Asked) (out : Output) (end : Option RunEnd)
+    (key : List ℕ) (contents : Contents) : Type 0 where
   pub plan : StationPlan
   pub task : Task
   pub is : StationOf asked plan task
@@ -46,7 +47,8 @@ pub record Stationed {A B : Type 0} (d : Devices A B) (asked : Asked) (out : Out
   pub first : A
   pub last : A
   pub alone : Alone d.ports_before d.ports_after first last
-  pub run : StationRuns key plan order end (outside (d.state first) out.sent_before d.time_before) (outside (d.state last) out.sent_after d.time_after)
+  pub run : StationRuns key plan order end (outside (d.state first) out.sent_before d.time_before)
+      (outside (d.state last) out.sent_after d.time_after)
   pub why : IfSome end IsStationEnd
   pub faults : FaultsBy end (d.state first).faults (d.state last).faults out.refusals_before out.refusals_after
 
@@ -78,15 +80,22 @@ HaltsAt Of_bytes runs file = runs put_spec file × TookAtMost 1048577 file.left_
 -- what the file holds; one that isn't named isn't read
 abbrev pub ContentsAre : FileSort → Input → Contents → Type 0
 ContentsAre No_file file contents = (contents ≡ record { items = []; bytes = [] }) × file.unread
-ContentsAre Of_items file contents = (contents.bytes ≡ []) × HoldsItems file.spent file.left_before file.left_after contents.items
-ContentsAre Of_bytes file contents = (contents.items ≡ []) × HoldsFile file.spent file.left_before file.left_after contents.bytes
+ContentsAre Of_items file contents = (contents.bytes ≡ [])
+    × HoldsItems file.spent file.left_before file.left_after contents.items
+ContentsAre Of_bytes file contents = (contents.items ≡ [])
+    × HoldsFile file.spent file.left_before file.left_after contents.bytes
 
--- the file is read if it is named: the run halts at it and leaves the ports as they were, or it goes on with its contents
-abbrev pub WithFile : FileSort → (CommandSpec → Input → Type 0) → (halted unmoved : Type 0) → Input → (Contents → Type 0) → Type 0
+-- the file is read if it is named: the run halts at it and leaves the ports as they were, or it goes on with its
+-- contents
+abbrev pub WithFile : FileSort → (CommandSpec → Input → Type 0) → (halted unmoved : Type 0) → Input
+    → (Contents → Type 0) → Type 0
 WithFile sort runs halted unmoved file next =
-    (HaltsAt sort runs file × halted × unmoved) ⊎ ((contents : Contents) × ContentsAre sort file contents × next contents)
+    (HaltsAt sort runs file × halted × unmoved)
+    ⊎ ((contents : Contents) × ContentsAre sort file contents × next contents)
 
 -- the key is read first, and then the file
-abbrev pub Stationing : (CommandSpec → Input → Type 0) → (halted unmoved : Type 0) → FileSort → (key file : Input) → (List ℕ → Contents → Type 0) → Type 0
+abbrev pub Stationing : (CommandSpec → Input → Type 0) → (halted unmoved : Type 0) → FileSort → (key file : Input)
+    → (List ℕ → Contents → Type 0) → Type 0
 Stationing runs halted unmoved sort key file next =
-    WithGivenKey runs halted (file.unread × unmoved) key (λ bytes. WithFile sort runs halted unmoved file (λ contents. next bytes contents))
+    WithGivenKey runs halted (file.unread × unmoved) key
+    (λ bytes. WithFile sort runs halted unmoved file (λ contents. next bytes contents))

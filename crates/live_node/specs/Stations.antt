@@ -1,5 +1,6 @@
 -- The run of a station on a port: one order, until it has its end or no more time is left for it.
-use Rattle.std.specs.Prelude.{ℕ, ◌≡◌, ◌≤◌, ◌⊎◌, nat_lt, if◌then◌else◌, true, false, List, [], ◌∷◌, ◌++◌, length, Option, Some, None, Ok, Err}
+use Rattle.std.specs.Prelude.{ℕ, ◌≡◌, ◌≤◌, ◌⊎◌, nat_lt, if◌then◌else◌, true, false, List, [], ◌∷◌, ◌++◌, length}
+use Rattle.std.specs.Prelude.{Option, Some, None, Ok, Err}
 use Rattle.std.specs.declared.result.Result.{Result}
 use Rattle.std.specs.Result.{result_err}
 use Rattle.mav_names.specs.declared.names.Stream.{Stream}
@@ -28,7 +29,8 @@ use Rattle.live_node.specs.Runs.{Outside, Stores, LiveRun}
 use Rattle.live_node.specs.Drones.{mem_stores}
 use Rattle.live_node.specs.Orders.{node_refuses, refused_end}
 
--- how a run ends, if it does: by the end of its operation, with the bytes that this gave, or after so many ticks without one
+-- how a run ends, if it does: by the end of its operation, with the bytes that this gave, or after so many ticks
+-- without one
 abbrev pub verdict : (most passed : ℕ) → Option Ending → Option (Result (List ℕ) RunEnd)
 verdict most passed (Some (Done bytes)) = Some (Ok bytes)
 verdict most passed (Some (Refused code)) = Some (Err (Live (RefusedWith code)))
@@ -48,7 +50,8 @@ pub record Awaits (most : ℕ) (start : Node) (calls : List LiveCall) : Type 0 w
   pub undecided : verdict most (ticks_over 0 calls) (ending_over None events) ≡ None
 
 -- nor did it before the last turn, or the last time that passed after the port's end
-pub record AwaitedBefore (most : ℕ) (start : Node) (opening : List LiveCall) (turns : List Turn) (rests : List Rest) : Type 0 where
+pub record AwaitedBefore (most : ℕ) (start : Node) (opening : List LiveCall) (turns : List Turn)
+    (rests : List Rest) : Type 0 where
   pub early : List LiveCall
   pub are : early ++ last_calls opening turns rests ≡ calls_of opening turns rests
   pub awaits : Awaits most start early
@@ -111,14 +114,17 @@ pub record OrderJudged (start : Node) (order : Order) (end : Option RunEnd) (mad
   pub accepted : 2 ≤ length made → node_refuses start order ≡ false
 
 -- the run of a station that has started, up to the bytes that its operation gave
-pub record StationLived {S : Type 0} (stores : Stores S) (before after : S) (plan : StationPlan) (order : Order) (start : Node) (ended : Result (List ℕ) RunEnd) (first last : Outside) : Type 0 where
+pub record StationLived {S : Type 0} (stores : Stores S) (before after : S) (plan : StationPlan) (order : Order)
+    (start : Node) (ended : Result (List ℕ) RunEnd) (first last : Outside) : Type 0 where
   pub run : LiveRun stores before after (IsOrdered order) HasEnded start (result_err ended) first last
   pub within : length run.turns ≤ plan.turns
-  pub ends : StationEnds plan ended run.turns (verdict plan.ticks (ticks_over 0 run.at.made) (ending_over None run.at.written.events))
+  pub ends : StationEnds plan ended run.turns
+      (verdict plan.ticks (ticks_over 0 run.at.made) (ending_over None run.at.written.events))
   pub awaited : Awaited plan.ticks start run.opening run.turns run.rests
   pub judged : OrderJudged start order (result_err ended) run.at.made
 
--- the bytes of an operation are written behind all lines, and then the run is done; or the output failed, with a prefix of them
+-- the bytes of an operation are written behind all lines, and then the run is done; or the output failed, with a
+-- prefix of them
 abbrev pub IsGivingEnd : Option RunEnd → Type 0
 IsGivingEnd None = Unit {0}
 IsGivingEnd (Some WriteFault) = Unit {0}
@@ -139,15 +145,17 @@ Gives (Err other) end told last = (end ≡ Some other) × (last ≡ told)
 abbrev pub stream_asked : StationPlan → Stream
 stream_asked plan = record { sys = plan.sys; comp = plan.comp; link = 0 }
 
--- a station started with a boot time by the clock, and ran; it stores nothing. After its lines come the bytes that its operation
--- gave
-pub record StationRan (key : List ℕ) (plan : StationPlan) (order : Order) (end : Option RunEnd) (first last : Outside) : Type 0 where
+-- a station started with a boot time by the clock, and ran; it stores nothing. After its lines come the bytes that its
+-- operation gave
+pub record StationRan (key : List ℕ) (plan : StationPlan) (order : Order) (end : Option RunEnd)
+    (first last : Outside) : Type 0 where
   pub boot : ℕ
   pub timed : IsTime first.time boot
   pub after : MemStore
   pub ended : Result (List ℕ) RunEnd
   pub told : Outside
-  pub lived : StationLived mem_stores (store_from_start [] []) after plan order (Station (new_station key (stream_asked plan) boot)) ended first told
+  pub lived : StationLived mem_stores (store_from_start [] []) after plan order
+      (Station (new_station key (stream_asked plan) boot)) ended first told
   pub gives : Gives ended end told last
 
 -- or there was no memory for it: nothing was read or written

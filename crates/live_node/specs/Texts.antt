@@ -3,10 +3,12 @@ use Rattle.std.specs.Prelude.{ℕ, ◌+◌, ◌-◌, ◌^◌, min, false, List, 
 use Rattle.std.specs.List.{flat_map}
 use Rattle.mav_names.specs.declared.names.Name.{Name}
 use Rattle.mav_frame.specs.Encoding.{encoding}
-use Rattle.plan_upload.specs.Station.{Told, Told_installed, Told_not_installed, Told_unknown, Told_cleared, Told_got, Told_ended}
+use Rattle.plan_upload.specs.Station.{Told, Told_installed, Told_not_installed, Told_unknown, Told_cleared, Told_got}
+use Rattle.plan_upload.specs.Station.{Told_ended}
 use Rattle.mav_nodes.specs.declared.news.FileEnd.{FileEnd}
 use Rattle.mav_nodes.specs.declared.news.FileEnd.TheVariants.{Done as Gives, Refused as Was_refused, NoAnswer}
-use Rattle.mav_nodes.specs.News.{NodeEvent, Sends, Ends, Ends_command, Gives_param, Ends_params, Ends_file, Shown, Shows_sent}
+use Rattle.mav_nodes.specs.News.{NodeEvent, Sends, Ends, Ends_command, Gives_param, Ends_params, Ends_file, Shown}
+use Rattle.mav_nodes.specs.News.{Shows_sent}
 use Rattle.fleet_report.specs.Events.{events_text}
 use Rattle.node_reports.specs.Reporting.{reported_by}
 use Rattle.live_node.specs.declared.run_log.Ending.{Ending}
@@ -30,14 +32,16 @@ abbrev pub count_over : ℕ → List NodeEvent → ℕ
 count_over before [] = before
 count_over before (event ∷ events) = count_over (count_with before event) events
 
--- the lines of what happened in a node that had sent so many frames: those of a scenario's report, with the number of each of
--- the node's own frames
+-- the lines of what happened in a node that had sent so many frames: those of a scenario's report, with the number of
+-- each of the node's own frames
 abbrev pub lines_of : Name → ℕ → List NodeEvent → List ℕ
 lines_of name before [] = []
 lines_of name before (event ∷ events) =
-    events_text false (reported_by name (min before (2 ^ 64 - 2)) (event ∷ [])) ++ lines_of name (count_with before event) events
+    events_text false (reported_by name (min before (2 ^ 64 - 2)) (event ∷ []))
+    ++ lines_of name (count_with before event) events
 
--- how an operation of a station ends, and which bytes it gives: an upload of unknown fate is one that the drone refused with 1
+-- how an operation of a station ends, and which bytes it gives: an upload of unknown fate is one that the drone
+-- refused with 1
 abbrev pub ending_told : Told → Ending
 ending_told Told_installed = Done []
 ending_told (Told_not_installed code) = Refused code

@@ -9,7 +9,8 @@ ghost use Rattle.command_line.specs.OperationTexts.{is_on_files};
 ghost use Rattle.live_node.specs.Runs.{stores_of};
 ghost use Rattle.live_node.specs.DroneAsked.{devices};
 ghost use Rattle.live_node.specs.OrderWords.{contents_of};
-ghost use Rattle.live_node.specs.StationAsked.{Stationed, Stationing, Of_items, Of_bytes, sort_of, file_asked, HaltsAt, ContentsAre};
+ghost use Rattle.live_node.specs.StationAsked.{Stationed, Stationing, Of_items, Of_bytes, sort_of, file_asked};
+ghost use Rattle.live_node.specs.StationAsked.{HaltsAt, ContentsAre};
 ghost use Rattle.run_status.specs.Seen.{input_of, output_of, before_status_over};
 
 use crate::order_words::{Contents, order_of};

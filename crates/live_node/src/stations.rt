@@ -11,8 +11,10 @@ ghost use Rattle.live_node.specs.Turns.{Turn};
 ghost use Rattle.live_node.specs.Ports.{PrintedBy, PrintFaults, FaultsBy, SameRead, IsRunEnd};
 ghost use Rattle.live_node.specs.Runs.{Outside, Ends, LinkRun, outside, stores_of};
 ghost use Rattle.live_node.specs.Progress.{Output, Between, PortEnded, Opened};
-ghost use Rattle.live_node.specs.Waiting.{OrderDone, OrderStopped, Watched, WatchStopped, Outlasted, OutlastStopped, WaitedFor};
-ghost use Rattle.live_node.specs.Stations.{StationLived, StationRuns, IsOrderEnd, IsWaitedEnd, IsStationEnd, Awaited, Gives, verdict, judged};
+ghost use Rattle.live_node.specs.Waiting.{OrderDone, OrderStopped, Watched, WatchStopped, Outlasted, OutlastStopped};
+ghost use Rattle.live_node.specs.Waiting.{WaitedFor};
+ghost use Rattle.live_node.specs.Stations.{StationLived, StationRuns, IsOrderEnd, IsWaitedEnd, IsStationEnd, Awaited};
+ghost use Rattle.live_node.specs.Stations.{Gives, verdict, judged};
 
 use crate::ends::order_end;
 use crate::nodes::{Due, LiveNode};
@@ -82,7 +84,8 @@ fn watch<L: Link, K: Sink, C: Clock, S: Keeper>(
         → Between (stores_of S.faults S.is_infallible S.contents) before keeper.old start opening [] [] live.old
         run_log.old first (outside (L.state link.old) (K.sent out.old) (C.always clock.old))
         → MatchResult result
-        (λ goes_on. Watched goes_on (stores_of S.faults S.is_infallible S.contents) before keeper.new plan start opening
+        (λ goes_on. Watched goes_on (stores_of S.faults S.is_infallible S.contents) before keeper.new plan start
+        opening
         live.new run_log.new first (outside (L.state link.new) (K.sent out.new) (C.always clock.new)))
         (λ end. WatchStopped (stores_of S.faults S.is_infallible S.contents) before keeper.new end plan start opening
         first (outside (L.state link.new) (K.sent out.new) (C.always clock.new))) }

@@ -54,7 +54,8 @@ fn ending_by_file(alloc: Global, end: &FileEnd) -> Result<Ending, NoMemory>
 
 // How it has ended with a piece of news, if it has.
 fn ending_in(alloc: Global, piece: &News) -> Result<Option<Ending>, NoMemory>
-    ensures { IfOk result (λ ending. (event : NodeEvent) → said_by piece.now ≡ shown event → ending ≡ ending_in event) }
+    ensures { IfOk result (λ ending. (event : NodeEvent) → said_by piece.now ≡ shown event
+        → ending ≡ ending_in event) }
 {
     match piece {
         News::Outcome(outcome) => Ok(Some(ending_of(alloc, outcome))),

@@ -8,7 +8,8 @@ ghost use Rattle.live_node.specs.Calls.{LiveCall};
 ghost use Rattle.live_node.specs.Ports.{SameRead, IsRunEnd};
 ghost use Rattle.live_node.specs.Runs.{Outside, Ends, outside, stores_of};
 ghost use Rattle.live_node.specs.Turns.{Turn};
-ghost use Rattle.live_node.specs.Progress.{Output, CallDone, CallStopped, WaitDone, WaitStopped, HeardPiece, PieceStopped, Between, Turned, TurnStops, due_call};
+ghost use Rattle.live_node.specs.Progress.{Output, CallDone, CallStopped, WaitDone, WaitStopped, HeardPiece};
+ghost use Rattle.live_node.specs.Progress.{PieceStopped, Between, Turned, TurnStops, due_call};
 
 use crate::ends::end_by;
 use crate::nodes::{Due, LiveNode};
@@ -32,7 +33,8 @@ pub(crate) fn call<L: Link, K: Sink, C: Clock, S: Keeper>(
     keeper: &mut S,
 ) -> Result<(), RunEnd>
     ensures did { (before : S) (start : Node) (made : List LiveCall) (first : Outside)
-        → Output (stores_of S.faults S.is_infallible S.contents) before keeper.old start made live.old run_log.old first
+        → Output (stores_of S.faults S.is_infallible S.contents) before keeper.old start made live.old run_log.old
+        first
         (outside (L.state link.old) (K.sent out.old) (C.always clock.old))
         → MatchResult result
         (λ _. CallDone (stores_of S.faults S.is_infallible S.contents) before keeper.new start made
@@ -64,10 +66,12 @@ pub(crate) fn wait<L: Link, K: Sink, C: Clock, S: Keeper>(
     keeper: &mut S,
 ) -> Result<(), RunEnd>
     ensures did { (before : S) (start : Node) (made : List LiveCall) (first : Outside)
-        → Output (stores_of S.faults S.is_infallible S.contents) before keeper.old start made live.old run_log.old first
+        → Output (stores_of S.faults S.is_infallible S.contents) before keeper.old start made live.old run_log.old
+        first
         (outside (L.state link.old) (K.sent out.old) (C.always clock.old))
         → MatchResult result
-        (λ _. WaitDone (stores_of S.faults S.is_infallible S.contents) before keeper.new start made live.new run_log.new
+        (λ _. WaitDone (stores_of S.faults S.is_infallible S.contents) before keeper.new start made live.new
+        run_log.new
         first (outside (L.state link.new) (K.sent out.new) (C.always clock.new)))
         (λ end. WaitStopped (stores_of S.faults S.is_infallible S.contents) before keeper.new end start made first
         (outside (L.state link.new) (K.sent out.new) (C.always clock.new))) }
@@ -93,7 +97,8 @@ fn hear<L: Link, K: Sink, C: Clock, S: Keeper>(
 ) -> Result<(), RunEnd>
     ensures did { (before : S) (start : Node) (made : List LiveCall) (first : Outside) (extras : List (ℕ × ℕ))
         (taken : List ℕ) (given : List Event)
-        → Output (stores_of S.faults S.is_infallible S.contents) before keeper.old start made live.old run_log.old first
+        → Output (stores_of S.faults S.is_infallible S.contents) before keeper.old start made live.old run_log.old
+        first
         (outside (L.state link.old) (K.sent out.old) (C.always clock.old)) → (end_of live.old).endpoint.extras ≡ extras
         → HasHeard taken given live.old
         → MatchResult result
@@ -129,7 +134,8 @@ pub(crate) fn turn<L: Link, K: Sink, C: Clock, S: Keeper>(
         → Between (stores_of S.faults S.is_infallible S.contents) before keeper.old start opening turns [] live.old
         run_log.old first (outside (L.state link.old) (K.sent out.old) (C.always clock.old))
         → MatchResult result
-        (λ goes_on. Turned goes_on (stores_of S.faults S.is_infallible S.contents) before keeper.new start opening turns
+        (λ goes_on. Turned goes_on (stores_of S.faults S.is_infallible S.contents) before keeper.new start opening
+        turns
         live.new run_log.new first (outside (L.state link.new) (K.sent out.new) (C.always clock.new)))
         (λ end. TurnStops (stores_of S.faults S.is_infallible S.contents) before keeper.new end start opening turns
         first (outside (L.state link.new) (K.sent out.new) (C.always clock.new))) }

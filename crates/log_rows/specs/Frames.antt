@@ -16,8 +16,8 @@ frame_bytes (SkipEvent byte why) = []
 abbrev pub log_frames : List (ℕ × ℕ) → List ℕ → List ℕ
 log_frames extras log = flat_map frame_bytes (log_events extras true log)
 
--- what was read of a log: the rest of a frame that is handed out in parts, the bytes after it that are in no event yet, and
--- whether the log has ended
+-- what was read of a log: the rest of a frame that is handed out in parts, the bytes after it that are in no event
+-- yet, and whether the log has ended
 pub record RowsHeld : Type 0 where
   pub extras : List (ℕ × ℕ)
   pub frame : List ℕ
@@ -42,10 +42,12 @@ pub record NoRowHeld (held : RowsHeld) : Type 0 where
   pub short : length held.bytes < 288
   pub over : held.ended ≡ true → held.bytes ≡ []
 
--- what is handed out after this part of the log was taken, where `closed` says that no more comes: the frames that are left
--- lose it; Idle where only the start of a row is held, and End exactly where nothing is left of a log that has ended
+-- what is handed out after this part of the log was taken, where `closed` says that no more comes: the frames that are
+-- left lose it; Idle where only the start of a row is held, and End exactly where nothing is left of a log that has
+-- ended
 pub record Gives (closed : Type 0) (part : List ℕ) (old new : RowsHeld) (got : Got) (buf : List ℕ) : Type 0 where
   pub within : GivesWithin got buf
-  pub left : (rest : List ℕ) → (closed → rest ≡ []) → frames_left old (part ++ rest) ≡ given got buf ++ frames_left new rest
+  pub left : (rest : List ℕ) → (closed → rest ≡ [])
+      → frames_left old (part ++ rest) ≡ given got buf ++ frames_left new rest
   pub waits : got ≡ Idle → NoRowHeld new × (new.ended ≡ false)
   pub over : got ≡ End → is_over new ≡ true

@@ -9,7 +9,8 @@ use Rattle.log_rows.specs.Rows.{micros_at}
 
 -- the events from a byte on, by what is 8 bytes further, with those after it if so many bytes more belong to a row
 abbrev pub events_at : Look → Bool → ℕ → ℕ → (ℕ → List LogEvent) → List LogEvent
-events_at (Found packet size) ended byte micros after = RowEvent (record { micros = micros; frame = packet }) ∷ after (size + 7)
+events_at (Found packet size) ended byte micros after =
+    RowEvent (record { micros = micros; frame = packet }) ∷ after (size + 7)
 events_at (NotHere why) ended byte micros after = SkipEvent byte why ∷ after 0
 events_at (More lacking) true byte micros after = SkipEvent byte Short ∷ after 0
 events_at (More lacking) false byte micros after = []
@@ -19,7 +20,8 @@ abbrev pub events_after : List (ℕ × ℕ) → Bool → ℕ → List ℕ → Li
 events_after extras ended inside [] = []
 events_after extras ended (suc inside) (byte ∷ rest) = events_after extras ended inside rest
 events_after extras ended zero (byte ∷ rest) =
-    events_at (look_of extras true (drop 8 (byte ∷ rest))) ended byte (micros_at (byte ∷ rest)) (λ inside. events_after extras ended inside rest)
+    events_at (look_of extras true (drop 8 (byte ∷ rest))) ended byte (micros_at (byte ∷ rest))
+    (λ inside. events_after extras ended inside rest)
 
 -- the events of the parse. The Bool says that the input has ended
 abbrev pub log_events : List (ℕ × ℕ) → Bool → List ℕ → List LogEvent

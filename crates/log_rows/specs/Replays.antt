@@ -1,22 +1,33 @@
 -- A replay over a link: what it is as a link, and what it asks of that one.
-use Rattle.std.specs.Prelude.{ℕ, ◌≡◌, ◌+◌, ◌-◌, ◌<◌, ◌≤◌, ◌^◌, List, length, [], Option, Some, None, option_map}
+use Rattle.std.specs.Prelude.{ℕ, ◌≡◌, ◌+◌, ◌-◌, ◌<◌, ◌≤◌, ◌^◌, Bool, false, true, List, length, [], Option, Some, None}
+use Rattle.std.specs.Prelude.{option_map}
 use Rattle.std.specs.Io.KnownBytes.{prepend_known}
 use Rattle.mav_links.specs.Links.{LinkState}
-use Rattle.log_rows.specs.Frames.{RowsHeld, frames_left, is_over}
+use Rattle.mav_ports.specs.declared.sources.Got.{Got}
+use Rattle.mav_ports.specs.declared.sources.Got.TheVariants.{Bytes, Idle, End, Failed}
+use Rattle.log_rows.specs.Frames.{RowsHeld, frames_left}
 
 -- the frames that are left, if the bytes left of the log are known
 abbrev pub known_frames : RowsHeld → Option (List ℕ) → Option (List ℕ)
 known_frames held log = option_map (frames_left held) log
 
--- a replay that holds this, over a link in that state. It tells no places of its Idle answers
-abbrev pub replay_state : RowsHeld → LinkState → ℕ → LinkState
-replay_state held link idles = record {
+-- a read has told the end
+abbrev pub is_end : Got → Bool
+is_end (Bytes count) = false
+is_end Idle = false
+is_end End = true
+is_end Failed = false
+
+-- a replay that holds this, over a link in that state, and whether it has told its end. It tells no places of its Idle
+-- answers
+abbrev pub replay_state : RowsHeld → LinkState → ℕ → Bool → LinkState
+replay_state held link idles over = record {
   left = known_frames held link.left;
   sent = link.sent;
   faults = link.faults;
   idles = idles;
   pauses = None;
-  ended = is_over held;
+  ended = over;
 }
 
 -- no bytes are left, if they are known

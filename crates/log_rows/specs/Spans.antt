@@ -1,5 +1,6 @@
 -- What is at the start of the bytes of a log.
-use Rattle.std.specs.Prelude.{ℕ, ◌+◌, ◌&&◌, Bool, true, nat_lt, if◌then◌else◌, List, [], ◌∷◌, length, drop, slice_index}
+use Rattle.std.specs.Prelude.{ℕ, ◌+◌, ◌&&◌, Bool, true, nat_lt, if◌then◌else◌, List, [], ◌∷◌, length, drop}
+use Rattle.std.specs.Prelude.{slice_index}
 use Rattle.mav_frame.specs.Looks.{look_of}
 use Rattle.mav_frame.specs.declared.looks.Look.{Look}
 use Rattle.mav_frame.specs.declared.looks.Look.TheVariants.{Frame as Found, NotHere, More}

@@ -1,5 +1,6 @@
 //! Laws of the parse of a log: functions without a body, whose contract is the law.
-ghost use Rattle.log_rows.specs.LogLaws.{ParseIsFunction, BeginsByFunction, MoreBytesKeepRows, ParseBegins, RowsReadBack};
+ghost use Rattle.log_rows.specs.LogLaws.{ParseIsFunction, BeginsByFunction, MoreBytesKeepRows, ParseBegins};
+ghost use Rattle.log_rows.specs.LogLaws.{RowsReadBack};
 
 /// Whatever events are the parse of a log, `log_events` gives them: so there is one parse at most.
 pub fn parse_is_function()

@@ -4,7 +4,8 @@ ghost use Rattle.mav_frame.specs.Looks.{frame_size_at, is_old_at};
 ghost use Rattle.log_rows.specs.LogParse.{LogEvent};
 ghost use Rattle.log_rows.specs.Progress.{LogProgress, IsWholeLog};
 ghost use Rattle.log_rows.specs.Rows.{row_encoding, first_row};
-ghost use Rattle.log_rows.specs.Spans.{log_span, span_events, span_size, held_behind, short_span, IfRow, IfSome, IfNeed};
+ghost use Rattle.log_rows.specs.Spans.{log_span, span_events, span_size, held_behind, short_span, IfRow, IfSome};
+ghost use Rattle.log_rows.specs.Spans.{IfNeed};
 
 use crate::rows::{TIME_BYTES, behind_time};
 use mav_frame::{CrcExtras, FrameCheck, Why, check_frame};

@@ -1,5 +1,5 @@
 -- Calls of a store, one after another.
-use Rattle.std.proofs.Common.{◌≡◌, ◌≤◌, ℕ, List, Option, Some, None, Result, Ok, Err, inl, inr, refl, ◌∙◌, sym, subst, arith}
+use Rattle.std.proofs.Common.{◌≡◌, ◌≤◌, ◌⊎◌, ℕ, List, Option, Some, None, Result, Ok, Err, inl, inr, refl, ◌∙◌, sym, subst, arith}
 use Rattle.std.specs.Prelude.{IfNone, IfSome, IfErr, OnOk, unwrap_or}
 use Rattle.std.specs.Result.{result_err}
 use Rattle.plan_items.specs.declared.messages.PlanMsg.{PlanMsg}
@@ -92,6 +92,11 @@ replaced (Some kept) now P bytes e h = rw e h
 pub bound_given : (contents now : Option (List ℕ)) (stored : ℕ → List ℕ → Type 0) (bound : ℕ) (bytes : List ℕ) (low : Option ℕ) → KeptOrReplaced contents now bytes → stored bound bytes → unwrap_or low 0 ≤ bound → HoldsNearly contents stored low → HoldsFrom now stored low
 bound_given contents now stored bound bytes low (inl e) is le held = nearly_from now stored low (subst (λ (c : Option (List ℕ)). HoldsNearly c stored low) (sym e) held)
 bound_given contents now stored bound bytes low (inr e) is le held = inr (bound, le, replaced contents now (stored bound) bytes e is)
+
+-- it has what it had, or exactly that bound
+pub exact_given : (contents now : Option (List ℕ)) (P : List ℕ → Type 0) (bytes : List ℕ) → KeptOrReplaced contents now bytes → P bytes → (now ≡ contents) ⊎ IfSome now P
+exact_given contents now P bytes (inl e) is = inl e
+exact_given contents now P bytes (inr e) is = inr (replaced contents now P bytes e is)
 
 -- ---- calls of a link
 

@@ -49,7 +49,9 @@ abbrev pub says : ℕ → List NodeEvent → Option PlanMsg → List NodeEvent �
 says clock first answer last link = after_events first (ends last (answers clock answer link))
 
 -- the rules of a core's and of services' steps; `kept` says whether the store keeps what a step changes
-abbrev pub rules_of : {Core Services : Type 0} → (Bool → Core → Stream → PlanMsg → CoreStep Core) → (Services → List NodeEvent → Services) → (Core → Services → Stream → Message → ServiceStep Services) → Bool → Rules Core Services
+abbrev pub rules_of : {Core Services : Type 0} → (Bool → Core → Stream → PlanMsg → CoreStep Core)
+    → (Services → List NodeEvent → Services) → (Core → Services → Stream → Message → ServiceStep Services) → Bool
+    → Rules Core Services
 rules_of taken noted served kept = record { take = taken kept; note = noted; serve = served }
 
 -- the services of a node did this step: these are the services now, and the code returned this of it

@@ -1,5 +1,5 @@
--- File transfer of nodes: a drone's server and a station's client, with the addresses of their messages (MAVLink guide,
--- MAVLink FTP).
+-- File transfer of nodes: a drone's server and a station's client, with the addresses of their messages (MAVLink
+-- guide, MAVLink FTP).
 use Rattle.std.specs.Prelude.{ℕ, ◌&&◌, if◌then◌else◌, List, [], ◌∷◌, Option, Some, None}
 use Rattle.mav_names.specs.declared.names.Name.{Name}
 use Rattle.mav_names.specs.declared.names.Stream.{Stream}
@@ -12,16 +12,24 @@ use Rattle.mav_ftp.specs.declared.client.ends.FtpStep.TheVariants.{Quiet, Send, 
 use Rattle.mav_ftp.specs.declared.client.ends.FtpTick.{FtpTick}
 use Rattle.mav_ftp.specs.declared.client.ends.FtpTick.TheVariants.{Quiet as Quiet_tick, Again, NoAnswer}
 use Rattle.mav_ftp.specs.Server.{FilesState, reply_to, files_after}
-use Rattle.mav_ftp.specs.Client.{TransferState, FileOrder, list_order, fetch_order, store_order, remove_order, no_transfer, ordered, request_of, transfer_step, step_answer, transfer_tick, tick_answer}
+use Rattle.mav_ftp.specs.Client.{TransferState, FileOrder, list_order, fetch_order, store_order, remove_order}
+use Rattle.mav_ftp.specs.Client.{no_transfer, ordered, request_of, transfer_step, step_answer, transfer_tick}
+use Rattle.mav_ftp.specs.Client.{tick_answer}
 use Rattle.mav_nodes.specs.declared.orders.FileOp.{FileOp}
 use Rattle.mav_nodes.specs.declared.orders.FileOp.TheVariants.{List as Lists, Fetch, Store, Remove}
 use Rattle.mav_nodes.specs.declared.news.FileEnd.{FileEnd}
-use Rattle.mav_nodes.specs.declared.news.FileEnd.TheVariants.{Done as Gives, Refused as Was_refused, NoAnswer as Unanswered}
+use Rattle.mav_nodes.specs.declared.news.FileEnd.TheVariants.{Done as Gives, Refused as Was_refused}
+use Rattle.mav_nodes.specs.declared.news.FileEnd.TheVariants.{NoAnswer as Unanswered}
 
 -- a payload for a node
 abbrev pub file_message : Stream → List ℕ → Message
 file_message to payload =
-    FileTransferProtocol (record { target_network = 0; target_system = to.sys; target_component = to.comp; payload = payload })
+    FileTransferProtocol (record {
+      target_network = 0;
+      target_system = to.sys;
+      target_component = to.comp;
+      payload = payload;
+    })
 
 abbrev pub target_of : FileMessage → Name
 target_of m = record { sys = m.target_system; comp = m.target_component }
@@ -34,7 +42,10 @@ pub record FilesStep : Type 0 where
 
 -- the sender of a request gets the reply
 abbrev pub replies : FilesState → Stream → List ℕ → FilesStep
-replies st from payload = record { files = files_after st from payload; answers = file_message from (reply_to st from payload) ∷ [] }
+replies st from payload = record {
+  files = files_after st from payload;
+  answers = file_message from (reply_to st from payload) ∷ [];
+}
 
 -- a message: a request for this node is replied to
 abbrev pub files_step : FilesState → Name → Stream → Message → FilesStep

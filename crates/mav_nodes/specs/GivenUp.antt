@@ -7,4 +7,5 @@ use Rattle.mav_nodes.specs.Promises.{GivenUpIn}
 
 -- at one of these frames
 abbrev pub DroneGivenUp : ℕ → (List Bool → Type 0) → Option (List ℕ) → List Packet → DroneSide → Type 0
-DroneGivenUp clock kept contents packets node = GivenUpIn drone_core_keeping IsStored drone_rules_keeping clock kept contents packets node
+DroneGivenUp clock kept contents packets node =
+    GivenUpIn drone_core_keeping IsStored drone_rules_keeping clock kept contents packets node

@@ -24,26 +24,31 @@ use Rattle.mav_nodes.specs.Signed.{signed_packet}
 -- the bytes of a frame parse to exactly that frame
 abbrev pub ParsesAlone : Type 0
 ParsesAlone =
-    (extras : List (ℕ × ℕ)) (packet : Packet) → FitsFrame packet → IsSealed extras false packet → final_parse extras false (encoding packet) ≡ Frame packet ∷ []
+    (extras : List (ℕ × ℕ)) (packet : Packet) → FitsFrame packet → IsSealed extras false packet
+    → final_parse extras false (encoding packet) ≡ Frame packet ∷ []
 
 -- a frame that carries a message verifies under its key
 abbrev pub SignedVerifies : Type 0
 SignedVerifies =
-    (key : List ℕ) (extras : List (ℕ × ℕ)) (me : Stream) (seq stamp : ℕ) (message : Message) → Verifies key (signed_packet key extras me seq stamp message) (signed_packet key extras me seq stamp message).block
+    (key : List ℕ) (extras : List (ℕ × ℕ)) (me : Stream) (seq stamp : ℕ) (message : Message)
+    → Verifies key (signed_packet key extras me seq stamp message)
+    (signed_packet key extras me seq stamp message).block
 
 -- the truncated payload of a message carries its plan message, or none if it is no message of the mission protocol
 abbrev pub PlanReadsBack : Type 0
 PlanReadsBack =
     (message : Message) → FitsLayout (definition_of message) (values_of message) → ItemFits (plan_of message)
     → All (λ byte. byte < 256) (truncated (serialised (definition_of message) (values_of message)))
-    → plan_in (definition_of message).id (truncated (serialised (definition_of message) (values_of message))) ≡ plan_of message
+    → plan_in (definition_of message).id (truncated (serialised (definition_of message) (values_of message)))
+    ≡ plan_of message
 
 -- and it carries its message of another service, or none
 abbrev pub ServiceReadsBack : Type 0
 ServiceReadsBack =
     (message : Message) → FitsLayout (definition_of message) (values_of message) → ServiceFits message
     → All (λ byte. byte < 256) (truncated (serialised (definition_of message) (values_of message)))
-    → service_in (definition_of message).id (truncated (serialised (definition_of message) (values_of message))) ≡ service_of message
+    → service_in (definition_of message).id (truncated (serialised (definition_of message) (values_of message)))
+    ≡ service_of message
 
 -- a frame fits, its checksum is right, and its bytes parse to exactly it
 pub record ReadsAlone (extras : List (ℕ × ℕ)) (packet : Packet) : Type 0 where
@@ -55,13 +60,15 @@ pub record ReadsAlone (extras : List (ℕ × ℕ)) (packet : Packet) : Type 0 wh
 abbrev pub sent_packet : List ℕ → Stream → ℕ → ℕ → Message → Packet
 sent_packet key me seq stamp message = signed_packet key (extras_of profile_definitions) me seq stamp message
 
--- it reads back as it was sent, verifies under the key, and carries the plan message of the message, or none, and that of
--- another service, or none
+-- it reads back as it was sent, verifies under the key, and carries the plan message of the message, or none, and that
+-- of another service, or none
 pub record ReadsBack (key : List ℕ) (me : Stream) (seq stamp : ℕ) (message : Message) : Type 0 where
   pub frame : ReadsAlone (extras_of profile_definitions) (sent_packet key me seq stamp message)
   pub verifies : Verifies key (sent_packet key me seq stamp message) (sent_packet key me seq stamp message).block
-  pub plan : plan_in (sent_packet key me seq stamp message).id (sent_packet key me seq stamp message).payload ≡ plan_of message
-  pub service : service_in (sent_packet key me seq stamp message).id (sent_packet key me seq stamp message).payload ≡ service_of message
+  pub plan : plan_in (sent_packet key me seq stamp message).id (sent_packet key me seq stamp message).payload
+      ≡ plan_of message
+  pub service : service_in (sent_packet key me seq stamp message).id (sent_packet key me seq stamp message).payload
+      ≡ service_of message
 
 -- a message whose values fit its layout
 pub record FitsMessage (message : Message) : Type 0 where
@@ -78,12 +85,14 @@ EverySendingReadsBack =
 -- each frame that a parse of bytes finds
 abbrev pub EveryFrameReadsAlone : Type 0
 EveryFrameReadsAlone =
-    (extras : List (ℕ × ℕ)) (bytes : List ℕ) → All (λ byte. byte < 256) bytes → All (ReadsAlone extras) (frames_of (final_parse extras false bytes))
+    (extras : List (ℕ × ℕ)) (bytes : List ℕ) → All (λ byte. byte < 256) bytes
+    → All (ReadsAlone extras) (frames_of (final_parse extras false bytes))
 
 -- frames with the same bytes are the same
 abbrev pub SameBytesSameFrame : Type 0
 SameBytesSameFrame =
-    (extras : List (ℕ × ℕ)) (one other : Packet) → ReadsAlone extras one → ReadsAlone extras other → encoding one ≡ encoding other → one ≡ other
+    (extras : List (ℕ × ℕ)) (one other : Packet) → ReadsAlone extras one → ReadsAlone extras other
+    → encoding one ≡ encoding other → one ≡ other
 
 -- the HEARTBEATs of nodes fit, and are no plan messages
 pub record HeartbeatsFit : Type 0 where
@@ -94,7 +103,8 @@ pub record HeartbeatsFit : Type 0 where
 
 -- what a drone sends at a tick of its simulator fits, and is no plan message, and no message for a service
 pub record FlightsFit : Type 0 where
-  pub position : (time : ℕ) (position : Point) → time < 2 ^ 32 → PointInRange position → FitsMessage (position_message time position)
+  pub position : (time : ℕ) (position : Point) → time < 2 ^ 32 → PointInRange position
+      → FitsMessage (position_message time position)
   pub position_plan : (time : ℕ) (position : Point) → plan_of (position_message time position) ≡ None
   pub position_service : (time : ℕ) (position : Point) → service_of (position_message time position) ≡ None
   pub reached : (number : ℕ) → number < 65536 → FitsMessage (reached_message number)

@@ -85,7 +85,8 @@ abbrev pub sends : ℕ → Message → Link → Outcome Link
 sends clock message link =
     let stamp = next_in link.history clock in
     if nat_lt greatest_stamp stamp then None
-    else done (sent_at stamp link) (Sends (signed_packet link.key link.extras link.me link.seq stamp message) message ∷ [])
+    else done (sent_at stamp link) (Sends (signed_packet link.key link.extras link.me link.seq stamp message) message
+    ∷ [])
 
 -- messages, one after another
 abbrev pub sends_all : ℕ → List Message → Link → Outcome Link

@@ -1,5 +1,5 @@
--- The low bound of timestamps that a drone keeps in its store: it is raised before a later timestamp is admitted or sent,
--- so that none at or below it needs to be admitted, or is sent, once the drone has started again.
+-- The low bound of timestamps that a drone keeps in its store: it is raised before a later timestamp is admitted or
+-- sent, so that none at or below it needs to be admitted, or is sent, once the drone has started again.
 use Rattle.std.specs.Prelude.{ℕ, ◌+◌, nat_lt, min, max, if◌then◌else◌, List, fold, Option, Some, None, unwrap_or}
 use Rattle.mav_frame.specs.Packet.{SignatureBlock}
 use Rattle.mav_sign.specs.declared.admission.Admit.{Admit}

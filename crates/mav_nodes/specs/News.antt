@@ -11,7 +11,8 @@ use Rattle.mav_sign.specs.declared.admission.Admit.{Admit}
 use Rattle.param_proto.specs.declared.params.Param.{Param}
 use Rattle.mav_nodes.specs.declared.news.FileEnd.{FileEnd}
 use Rattle.mav_nodes.specs.declared.news.News.{News}
-use Rattle.mav_nodes.specs.declared.news.News.TheVariants.{Sent, Installed, Emptied, Dropped, Outcome, Command, Param as Told_param, Params, Reached, Captured, File}
+use Rattle.mav_nodes.specs.declared.news.News.TheVariants.{Sent, Installed, Emptied, Dropped, Outcome, Command}
+use Rattle.mav_nodes.specs.declared.news.News.TheVariants.{Param as Told_param, Params, Reached, Captured, File}
 
 pub data NodeEvent : Type 0 where
   -- a frame was sent, which carries the message
@@ -37,7 +38,8 @@ pub data NodeEvent : Type 0 where
   -- what was asked of files has ended
   Ends_file : (end : FileEnd) → NodeEvent
 
--- what news report of an event: of an installed plan, how many items it has, and of a list of parameters, how many they are
+-- what news report of an event: of an installed plan, how many items it has, and of a list of parameters, how many
+-- they are
 pub data Shown : Type 0 where
   Shows_sent : (packet : Packet) (message : Message) → Shown
   Shows_installed : (kind : PlanKind) (count : ℕ) (by : Stream) → Shown

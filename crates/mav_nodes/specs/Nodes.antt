@@ -11,7 +11,8 @@ use Rattle.plan_upload.specs.declared.changes.Change.TheVariants.{Same, Install,
 use Rattle.plan_upload.specs.Changes.{change_by}
 use Rattle.plan_upload.specs.Plans.{Plans, plan_at, no_plans}
 use Rattle.plan_upload.specs.Drone.{DroneState, DroneTick, drone_step, drone_tick, fresh_drone}
-use Rattle.plan_upload.specs.Station.{StationState, StationStep, Told, stays, station_step, station_tick, station_cancel, fresh_station, begin_upload, begin_clear, begin_get, untold}
+use Rattle.plan_upload.specs.Station.{StationState, StationStep, Told, stays, station_step, station_tick}
+use Rattle.plan_upload.specs.Station.{station_cancel, fresh_station, begin_upload, begin_clear, begin_get, untold}
 use Rattle.mav_profile.specs.Messages.{extras_of}
 use Rattle.mav_profile.specs.Profile.{profile_definitions}
 use Rattle.mav_messages.specs.declared.messages.Message.{Message}
@@ -23,7 +24,8 @@ use Rattle.plan_upload.specs.declared.faults.OpFault.TheVariants.{NoMemory}
 use Rattle.plan_upload.specs.Kinds.{clear_number}
 use Rattle.plan_upload.specs.Refusals.{upload_refusal, refusal, first_of}
 use Rattle.mav_nodes.specs.declared.orders.Order.{Order}
-use Rattle.mav_nodes.specs.declared.orders.Order.TheVariants.{Begin, Cancel, Clear, Get, Command, ParamRead, ParamSet, ParamList, File}
+use Rattle.mav_nodes.specs.declared.orders.Order.TheVariants.{Begin, Cancel, Clear, Get, Command, ParamRead, ParamSet}
+use Rattle.mav_nodes.specs.declared.orders.Order.TheVariants.{ParamList, File}
 use Rattle.mav_nodes.specs.News.{NodeEvent, Installs, Empties, Ends}
 use Rattle.command_proto.specs.Commander.{commands, open_command}
 use Rattle.param_proto.specs.declared.params.Param.{Param}
@@ -33,7 +35,9 @@ use Rattle.mav_ftp.specs.Client.{FileOrder, order_fault as file_fault}
 use Rattle.mav_nodes.specs.FileServices.{begins, file_order}
 use Rattle.drone_sim.specs.declared.points.Point.{Point}
 use Rattle.drone_sim.specs.Sim.{armed}
-use Rattle.mav_nodes.specs.Services.{ServiceStep, DroneServices, StationServices, new_drone_services, new_station_services, drone_serves, drone_notes, drone_flies, station_serves, station_waits, command_of, asks_command, asks_params, asks_file, rests}
+use Rattle.mav_nodes.specs.Services.{ServiceStep, DroneServices, StationServices, new_drone_services}
+use Rattle.mav_nodes.specs.Services.{new_station_services, drone_serves, drone_notes, drone_flies, station_serves}
+use Rattle.mav_nodes.specs.Services.{station_waits, command_of, asks_command, asks_params, asks_file, rests}
 use Rattle.mav_nodes.specs.Links.{LinkView, Outcome, and_then, new_link, sends}
 use Rattle.mav_nodes.specs.Steps.{Side, IsNode, Rules, CoreStep, with_core, steps, serves, receives, receives_keeping}
 
@@ -105,10 +109,18 @@ base_mode_of armed = if armed then 128 else 0
 -- HEARTBEAT of a drone: a quadrotor with a generic autopilot, active (MAVLink guide, Heartbeat Protocol)
 abbrev pub drone_heartbeat : Bool → Message
 drone_heartbeat armed =
-    Heartbeat (record { ty = 2; autopilot = 0; base_mode = base_mode_of armed; custom_mode = 0; system_status = 4; mavlink_version = 3 })
+    Heartbeat (record {
+      ty = 2;
+      autopilot = 0;
+      base_mode = base_mode_of armed;
+      custom_mode = 0;
+      system_status = 4;
+      mavlink_version = 3;
+    })
 
 abbrev pub drone_beats : ℕ → DroneSide → Outcome DroneSide
-drone_beats clock node = with_core node.core node.services [] (sends clock (drone_heartbeat (armed node.services.sim)) node.link)
+drone_beats clock node = with_core node.core node.services []
+    (sends clock (drone_heartbeat (armed node.services.sim)) node.link)
 
 -- one tick of its simulator
 abbrev pub drone_sims : ℕ → DroneSide → Outcome DroneSide
@@ -170,7 +182,14 @@ station_ticks clock node =
 -- HEARTBEAT of a station: a ground station without an autopilot
 abbrev pub station_heartbeat : Message
 station_heartbeat =
-    Heartbeat (record { ty = 6; autopilot = 8; base_mode = 0; custom_mode = 0; system_status = 4; mavlink_version = 3 })
+    Heartbeat (record {
+      ty = 6;
+      autopilot = 8;
+      base_mode = 0;
+      custom_mode = 0;
+      system_status = 4;
+      mavlink_version = 3;
+    })
 
 abbrev pub station_beats : ℕ → StationSide → Outcome StationSide
 station_beats clock node = with_core node.core node.services [] (sends clock station_heartbeat node.link)
@@ -186,30 +205,37 @@ station_cancels clock node = steps clock node.link node.services (station_does (
 
 -- it begins a clear of the plan of a kind, and with 255 of all three
 abbrev pub station_clears : ℕ → Stream → ℕ → StationSide → Outcome StationSide
-station_clears clock drone kind node = steps clock node.link node.services (station_does (begin_clear node.core drone kind))
+station_clears clock drone kind node = steps clock node.link node.services
+    (station_does (begin_clear node.core drone kind))
 
 -- it begins a download
 abbrev pub station_gets : ℕ → Stream → ℕ → StationSide → Outcome StationSide
-station_gets clock drone kind node = steps clock node.link node.services (station_does (begin_get node.core drone kind))
+station_gets clock drone kind node = steps clock node.link node.services
+    (station_does (begin_get node.core drone kind))
 
 -- it gives a command, whose first parameter is this word
 abbrev pub station_commands : ℕ → Stream → ℕ → ℕ → StationSide → Outcome StationSide
 station_commands clock drone number word node =
-    serves clock node.link node.core (asks_command node.services (commands node.services.commander drone (command_of number word)))
+    serves clock node.link node.core (asks_command node.services
+    (commands node.services.commander drone (command_of number word)))
 
 -- it reads a parameter, sets one, and lists all of them
 abbrev pub station_reads_param : ℕ → Stream → List ℕ → StationSide → Outcome StationSide
-station_reads_param clock drone id node = serves clock node.link node.core (asks_params node.services (reads node.services.client drone id))
+station_reads_param clock drone id node =
+    serves clock node.link node.core (asks_params node.services (reads node.services.client drone id))
 
 abbrev pub station_sets_param : ℕ → Stream → Param → StationSide → Outcome StationSide
-station_sets_param clock drone param node = serves clock node.link node.core (asks_params node.services (sets node.services.client drone param))
+station_sets_param clock drone param node =
+    serves clock node.link node.core (asks_params node.services (sets node.services.client drone param))
 
 abbrev pub station_lists_params : ℕ → Stream → StationSide → Outcome StationSide
-station_lists_params clock drone node = serves clock node.link node.core (asks_params node.services (lists node.services.client drone))
+station_lists_params clock drone node = serves clock node.link node.core
+    (asks_params node.services (lists node.services.client drone))
 
 -- it begins an operation on files
 abbrev pub station_transfers : ℕ → Stream → FileOrder → StationSide → Outcome StationSide
-station_transfers clock drone order node = serves clock node.link node.core (asks_file node.services (begins node.services.files drone order))
+station_transfers clock drone order node =
+    serves clock node.link node.core (asks_file node.services (begins node.services.files drone order))
 
 pub record StationView : Type 0 where
   pub link : LinkView

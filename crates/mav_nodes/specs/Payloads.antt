@@ -1,5 +1,5 @@
--- The message of the mission protocol in a payload, and that of another service of a node (MAVLink guide, Mission Protocol,
--- Command Protocol, Parameter Protocol, MAVLink FTP; MAVLink common messages).
+-- The message of the mission protocol in a payload, and that of another service of a node (MAVLink guide, Mission
+-- Protocol, Command Protocol, Parameter Protocol, MAVLink FTP; MAVLink common messages).
 use Rattle.std.specs.Prelude.{ℕ, ◌≡◌, ◌==◌, if◌then◌else◌, List, [], ◌∷◌, map, slice_index, Option, Some, None}
 use Rattle.std.specs.List.{enumerate_from}
 use Rattle.std.specs.Int.{w16, w32, cast_signed, cast_unsigned}
@@ -8,17 +8,26 @@ use Rattle.field_layout.specs.Definition.{Definition, all_fields, element_count}
 use Rattle.field_layout.specs.WireOrder.{Placed, offset_of}
 use Rattle.field_layout.specs.Payload.{words_at}
 use Rattle.field_layout.specs.Reading.{words_from}
-use Rattle.mav_profile.specs.Profile.{ping_definition, mission_request_list_definition, mission_count_definition, mission_clear_all_definition, mission_ack_definition, mission_request_int_definition, mission_item_int_definition, param_request_read_definition, param_request_list_definition, param_value_definition, param_set_definition, command_long_definition, command_ack_definition, file_transfer_protocol_definition}
+use Rattle.mav_profile.specs.Profile.{ping_definition, mission_request_list_definition, mission_count_definition}
+use Rattle.mav_profile.specs.Profile.{mission_clear_all_definition, mission_ack_definition}
+use Rattle.mav_profile.specs.Profile.{mission_request_int_definition, mission_item_int_definition}
+use Rattle.mav_profile.specs.Profile.{param_request_read_definition, param_request_list_definition}
+use Rattle.mav_profile.specs.Profile.{param_value_definition, param_set_definition, command_long_definition}
+use Rattle.mav_profile.specs.Profile.{command_ack_definition, file_transfer_protocol_definition}
 use Rattle.mav_names.specs.declared.names.Name.{Name}
 use Rattle.mav_messages.specs.declared.messages.Message.{Message}
-use Rattle.mav_messages.specs.declared.messages.Message.TheVariants.{ParamRequestRead, ParamRequestList, ParamValue, ParamSet, CommandLong, CommandAck, FileTransferProtocol}
+use Rattle.mav_messages.specs.declared.messages.Message.TheVariants.{ParamRequestRead, ParamRequestList, ParamValue}
+use Rattle.mav_messages.specs.declared.messages.Message.TheVariants.{ParamSet, CommandLong, CommandAck}
+use Rattle.mav_messages.specs.declared.messages.Message.TheVariants.{FileTransferProtocol}
 use Rattle.plan_items.specs.declared.messages.PlanMsg.{PlanMsg}
-use Rattle.plan_items.specs.declared.messages.PlanMsg.TheVariants.{Count, Request, Item as Give, Ack, List as Listing, Clear, Ping}
+use Rattle.plan_items.specs.declared.messages.PlanMsg.TheVariants.{Count, Request, Item as Give, Ack, List as Listing}
+use Rattle.plan_items.specs.declared.messages.PlanMsg.TheVariants.{Clear, Ping}
 
 -- the words of each field, in definition order with the extensions last; the bytes past the payload's end are zeros
 abbrev pub values_in : Definition → List ℕ → List (List ℕ)
 values_in def payload =
-    map (λ (field : Placed). words_from payload (offset_of def field.0) (element_size field.1.ty) (element_count field.1)) (enumerate_from 0 (all_fields def))
+    map (λ (field : Placed). words_from payload (offset_of def field.0) (element_size field.1.ty)
+    (element_count field.1)) (enumerate_from 0 (all_fields def))
 
 -- the word of a field of one value
 abbrev pub word_of : List (List ℕ) → ℕ → ℕ

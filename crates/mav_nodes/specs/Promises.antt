@@ -1,5 +1,6 @@
 -- What calls promise of a node: its state after them, and the news that they append.
-use Rattle.std.specs.Prelude.{ℕ, ◌≡◌, ◌⊎◌, Bool, List, [], ◌∷◌, ◌++◌, map, true, false, Option, Some, None, IfNone, IfSome}
+use Rattle.std.specs.Prelude.{ℕ, ◌≡◌, ◌⊎◌, Bool, List, [], ◌∷◌, ◌++◌, map, true, false, Option, Some, None, IfNone}
+use Rattle.std.specs.Prelude.{IfSome}
 use Rattle.mav_frame.specs.Packet.{Packet, SignatureBlock}
 use Rattle.mav_sign.specs.declared.admission.Admit.{Admit}
 use Rattle.mav_sign.specs.declared.admission.Admit.TheVariants.{Admitted}
@@ -19,7 +20,9 @@ use Rattle.mav_nodes.specs.Stores.{Serves, IsRaised, GivenUp}
 use Rattle.mav_nodes.specs.Steps.{Side, IsNode, CoreStep, Rules, hears_keeping}
 use Rattle.plan_upload.specs.Station.{StationState}
 use Rattle.mav_nodes.specs.Services.{StationServices}
-use Rattle.mav_nodes.specs.Nodes.{DroneSide, StationSide, DroneView, StationView, IsStation, IsAccepted, station_obeys, order_refusal, order_plan, order_fault, command_refusal, params_refusal, file_refusal}
+use Rattle.mav_nodes.specs.Nodes.{DroneSide, StationSide, DroneView, StationView, IsStation, IsAccepted, station_obeys}
+use Rattle.mav_nodes.specs.Nodes.{order_refusal, order_plan, order_fault, command_refusal, params_refusal}
+use Rattle.mav_nodes.specs.Nodes.{file_refusal}
 use Rattle.mav_nodes.specs.declared.orders.Order.{Order}
 use Rattle.mav_nodes.specs.declared.faults.OrderFault.{OrderFault}
 use Rattle.mav_nodes.specs.declared.faults.OrderFault.TheVariants.{Begin, Op, Command, Param, File, Node}
@@ -44,14 +47,16 @@ pub record SpentKeeping {I B : Type 0} (kept : I → Type 0) (does : I → Outco
   pub is_kept : kept keeps
   pub none : does keeps ≡ None
 
-abbrev pub FailsKeeping : {I A B : Type 0} → NodeFault → (A → Type 0) → (I → A → Outcome B) → (I → Type 0) → Type 0 → Type 0
+abbrev pub FailsKeeping : {I A B : Type 0} → NodeFault → (A → Type 0) → (I → A → Outcome B) → (I → Type 0) → Type 0
+    → Type 0
 FailsKeeping {I} {A} StampsSpent Is does kept failed = (a : A) → Is a → SpentKeeping kept (λ keeps. does keeps a)
 FailsKeeping Store Is does kept failed = failed
 FailsKeeping NoMemory Is does kept failed = Unit {0}
 
--- what a call of a link that ends so does beside: if it doesn't fail, its store has what is to be stored, and else what a node
--- leaves that is given up; the low bound doesn't fall; nothing is read; and what any call does to a store
-pub record LinkKeeps {Store : Type 0} (fault : Option NodeFault) (Held Holds Leaves : Type 0) (old new : LinkView) (faults : Store → ℕ) (is_infallible : Store → Type 0) (before now : Store) : Type 0 where
+-- what a call of a link that ends so does beside: if it doesn't fail, its store has what is to be stored, and else
+-- what a node leaves that is given up; the low bound doesn't fall; nothing is read; and what any call does to a store
+pub record LinkKeeps {Store : Type 0} (fault : Option NodeFault) (Held Holds Leaves : Type 0) (old new : LinkView)
+    (faults : Store → ℕ) (is_infallible : Store → Type 0) (before now : Store) : Type 0 where
   pub stored : IfNone fault (Held → Holds)
   pub given : IfSome fault (λ _. Held → Leaves)
   pub raised : IsRaised old.low new.low
@@ -69,8 +74,10 @@ pub record Carries (packet : Packet) (plan : Option PlanMsg) (other : Option Mes
 
 -- the result of a frame that carries that plan message, or that message of another service, or none
 abbrev pub IsAnswer : Admit → Packet → Option SignatureBlock → Tried → Type 0
-IsAnswer Admitted packet (Some block) (Plan from message) = (from ≡ stream_of packet block) × (plan_in packet.id packet.payload ≡ Some message)
-IsAnswer Admitted packet (Some block) (Service from message) = (from ≡ stream_of packet block) × Carries packet None (Some message)
+IsAnswer Admitted packet (Some block) (Plan from message) = (from ≡ stream_of packet block)
+    × (plan_in packet.id packet.payload ≡ Some message)
+IsAnswer Admitted packet (Some block) (Service from message) = (from ≡ stream_of packet block)
+    × Carries packet None (Some message)
 IsAnswer Admitted packet (Some block) Other = Carries packet None None
 IsAnswer Admitted packet (Some block) (Dropped answer) = ⊥
 IsAnswer Admitted packet None tried = ⊥
@@ -81,7 +88,8 @@ abbrev pub IsTried : Link → Packet → Tried → Type 0
 IsTried link packet tried = IsAnswer (answer_to link.key link.history packet) packet packet.block tried
 
 -- the core after the plan message of an admitted frame, of which the store kept what it changed, or didn't
-pub record TookPlan {Core : Type 0} (taken : Bool → Core → Stream → PlanMsg → CoreStep Core) (link : Link) (packet : Packet) (core after : Core) : Type 0 where
+pub record TookPlan {Core : Type 0} (taken : Bool → Core → Stream → PlanMsg → CoreStep Core) (link : Link)
+    (packet : Packet) (core after : Core) : Type 0 where
   pub kept : Bool
   pub from : Stream
   pub message : PlanMsg
@@ -89,11 +97,14 @@ pub record TookPlan {Core : Type 0} (taken : Bool → Core → Stream → PlanMs
   pub is : after ≡ (taken kept core from message).core
 
 -- a core before a frame, or after it
-abbrev pub AtFrame : {Core : Type 0} → (Bool → Core → Stream → PlanMsg → CoreStep Core) → Link → Packet → (core after : Core) → Type 0
+abbrev pub AtFrame : {Core : Type 0} → (Bool → Core → Stream → PlanMsg → CoreStep Core) → Link → Packet
+    → (core after : Core) → Type 0
 AtFrame taken link packet core after = (after ≡ core) ⊎ TookPlan taken link packet core after
 
 -- what the store has of a node that is given up at one of these frames: those before it were heard
-pub record GivenUpIn {Core Services : Type 0} (taken : Bool → Core → Stream → PlanMsg → CoreStep Core) (stored : Core → ℕ → List ℕ → Type 0) (rules : Bool → Rules Core Services) (clock : ℕ) (kept : List Bool → Type 0) (contents : Option (List ℕ)) (packets : List Packet) (node : Side Core Services) : Type 0 where
+pub record GivenUpIn {Core Services : Type 0} (taken : Bool → Core → Stream → PlanMsg → CoreStep Core)
+    (stored : Core → ℕ → List ℕ → Type 0) (rules : Bool → Rules Core Services) (clock : ℕ) (kept : List Bool → Type 0)
+    (contents : Option (List ℕ)) (packets : List Packet) (node : Side Core Services) : Type 0 where
   pub before : List Packet
   pub packet : Packet
   pub after : List Packet
@@ -106,7 +117,8 @@ pub record GivenUpIn {Core Services : Type 0} (taken : Bool → Core → Stream 
   pub given : GivenUp contents stored (stored_low here.link.history) (AtFrame taken here.link packet here.core)
 
 -- the same of a node, of a drone and of a station
-abbrev pub NodeDid : {Core Services : Type 0} → Outcome (Side Core Services) → LinkView → Core → Services → List News → List News → Type 0
+abbrev pub NodeDid : {Core Services : Type 0} → Outcome (Side Core Services) → LinkView → Core → Services → List News
+    → List News → Type 0
 NodeDid outcome end core services before after = Did outcome (λ node. IsNode node end core services) before after
 
 abbrev pub DroneDid : Outcome DroneSide → DroneView → List News → List News → Type 0
@@ -116,7 +128,8 @@ abbrev pub StationDid : Outcome StationSide → StationView → List News → Li
 StationDid outcome view before after = NodeDid outcome view.link view.station view.services before after
 
 -- the same with a store that may not keep what is saved
-pub record NodeDidKeeping {I Core Services : Type 0} (does : I → Outcome (Side Core Services)) (kept : I → Type 0) (end : LinkView) (core : Core) (services : Services) (news : List News) : Type 0 where
+pub record NodeDidKeeping {I Core Services : Type 0} (does : I → Outcome (Side Core Services)) (kept : I → Type 0)
+    (end : LinkView) (core : Core) (services : Services) (news : List News) : Type 0 where
   pub keeps : I
   pub is_kept : kept keeps
   pub did : NodeDid (does keeps) end core services [] news
@@ -126,7 +139,8 @@ DroneDidKeeping {I} does kept view news = NodeDidKeeping {I = I} does kept view.
 
 -- an order was refused, for the first cause; an upload's plan is returned
 abbrev pub IsPlanRefusal : StationState → Order → OrderFault → Type 0
-IsPlanRefusal station order (Begin fault) = (order_refusal station order ≡ Some fault.why) × (order_plan order ≡ Some fault.plan)
+IsPlanRefusal station order (Begin fault) = (order_refusal station order ≡ Some fault.why)
+    × (order_plan order ≡ Some fault.plan)
 IsPlanRefusal station order (Op fault) = order_fault station order ≡ Some fault
 IsPlanRefusal station order (Command busy) = ⊥
 IsPlanRefusal station order (Param busy) = ⊥
@@ -135,7 +149,8 @@ IsPlanRefusal station order (Node fault) = ⊥
 
 -- the same, or its services refused it
 abbrev pub IsRefusal : StationView → Order → OrderFault → Type 0
-IsRefusal station order (Begin fault) = (order_refusal station.station order ≡ Some fault.why) × (order_plan order ≡ Some fault.plan)
+IsRefusal station order (Begin fault) = (order_refusal station.station order ≡ Some fault.why)
+    × (order_plan order ≡ Some fault.plan)
 IsRefusal station order (Op fault) = order_fault station.station order ≡ Some fault
 IsRefusal station order (Command busy) = command_refusal station.services order ≡ Some busy.command
 IsRefusal station order (Param busy) = params_refusal station.services order ≡ true
@@ -169,5 +184,6 @@ OrderKeeps before after (Node fault) = Unit {0}
 abbrev pub OrderFails : ℕ → Order → StationView → OrderFault → Type 0
 OrderFails clock order station (Node fault) =
     IsAccepted station order
-    × Fails fault (λ (node : StationSide). IsStation node station) (λ (node : StationSide). station_obeys clock order node) ⊥
+    × Fails fault (λ (node : StationSide). IsStation node station)
+    (λ (node : StationSide). station_obeys clock order node) ⊥
 OrderFails clock order station refusal = IsRefusal station order refusal

@@ -25,7 +25,8 @@ started_again key sys home None plans = new_drone key sys home
 started_again key sys home (Some low) plans = stored_drone key sys home low plans
 
 abbrev pub restarted_drone : List ℕ → DroneSide → DroneSide
-restarted_drone key node = started_again key node.core.sys node.services.sim.home (stored_low node.link.history) node.core.plans
+restarted_drone key node = started_again key node.core.sys node.services.sim.home
+    (stored_low node.link.history) node.core.plans
 
 -- it starts again, and sends HEARTBEAT
 abbrev pub drone_restarts : List ℕ → ℕ → DroneSide → Outcome DroneSide

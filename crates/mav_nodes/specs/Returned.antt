@@ -2,7 +2,8 @@
 use Rattle.std.specs.Prelude.{ℕ, List, [], ◌∷◌, Option, Some, None}
 use Rattle.mav_messages.specs.declared.messages.Message.{Message}
 use Rattle.command_proto.specs.declared.ticks.CommandTick.{CommandTick}
-use Rattle.command_proto.specs.declared.ticks.CommandTick.TheVariants.{Quiet as NoCommand, Again as CommandAgain, NoAnswer as NoCommandAnswer}
+use Rattle.command_proto.specs.declared.ticks.CommandTick.TheVariants.{Quiet as NoCommand, Again as CommandAgain}
+use Rattle.command_proto.specs.declared.ticks.CommandTick.TheVariants.{NoAnswer as NoCommandAnswer}
 use Rattle.param_proto.specs.declared.ends.ParamEnd.{ParamEnd}
 use Rattle.param_proto.specs.declared.ends.ParamEnd.TheVariants.{One, All}
 use Rattle.param_proto.specs.declared.ends.ParamTick.{ParamTick}

@@ -1,6 +1,7 @@
 -- The services of a node beside its plan core: a drone's commands, parameters, files and simulator, and a station's
 -- commands, parameters and file transfer.
-use Rattle.std.specs.Prelude.{ℕ, ℤ, pos, negsuc, ◌+◌, ◌-◌, ◌/◌, ◌%◌, ◌^◌, Bool, true, false, if◌then◌else◌, List, [], ◌∷◌, ◌++◌, length, replicate, zero, suc, codes, Option, Some, None, unwrap_or}
+use Rattle.std.specs.Prelude.{ℕ, ℤ, pos, negsuc, ◌+◌, ◌-◌, ◌/◌, ◌%◌, ◌^◌, Bool, true, false, if◌then◌else◌, List, []}
+use Rattle.std.specs.Prelude.{◌∷◌, ◌++◌, length, replicate, zero, suc, codes, Option, Some, None, unwrap_or}
 use Rattle.std.specs.List.{list_any}
 use Rattle.std.specs.Int.{w32, cast_unsigned, cast_signed}
 use Rattle.mav_names.specs.declared.names.Name.{Name}
@@ -17,17 +18,22 @@ use Rattle.mav_messages.specs.declared.messages.Message.TheVariants.{GlobalPosit
 use Rattle.command_proto.specs.declared.executor.Ready.{Ready}
 use Rattle.command_proto.specs.declared.commands.Command.{Command}
 use Rattle.command_proto.specs.Executor.{ExecutorState, ExecutorStep, new_executor, executor_step}
-use Rattle.command_proto.specs.Commander.{CommanderState, CommanderStep, CommandEnd, Result, No_answer as No_command_answer, new_commander, commander_step, commander_tick}
+use Rattle.command_proto.specs.Commander.{CommanderState, CommanderStep, CommandEnd, Result}
+use Rattle.command_proto.specs.Commander.{No_answer as No_command_answer, new_commander, commander_step}
+use Rattle.command_proto.specs.Commander.{commander_tick}
 use Rattle.param_proto.specs.declared.params.Param.{Param}
 use Rattle.param_proto.specs.Server.{ServerState, new_server, server_step, place_of, word_in}
-use Rattle.param_proto.specs.Client.{ClientState, ClientStep, ParamsEnd, One_value, All_values, No_answer as No_params_answer, new_client, client_step, client_tick}
+use Rattle.param_proto.specs.Client.{ClientState, ClientStep, ParamsEnd, One_value, All_values}
+use Rattle.param_proto.specs.Client.{No_answer as No_params_answer, new_client, client_step, client_tick}
 use Rattle.mav_ftp.specs.Server.{FilesState, no_files}
 use Rattle.mav_nodes.specs.declared.news.FileEnd.{FileEnd}
-use Rattle.mav_nodes.specs.News.{NodeEvent, Installs, Empties, Ends_command, Gives_param, Ends_params, Reaches, Captures, Ends_file}
-use Rattle.mav_nodes.specs.FileServices.{FilesStep, StationFiles, TransferStep, files_step, new_station_files, transfer_heard, transfer_waits}
+use Rattle.mav_nodes.specs.News.{NodeEvent, Installs, Empties, Ends_command, Gives_param, Ends_params, Reaches}
+use Rattle.mav_nodes.specs.News.{Captures, Ends_file}
+use Rattle.mav_nodes.specs.FileServices.{FilesStep, StationFiles, TransferStep, files_step, new_station_files}
+use Rattle.mav_nodes.specs.FileServices.{transfer_heard, transfer_waits}
 
--- what the services of a node do at a message, a tick or an order: the services after it, the messages that are sent, and
--- what ends with it
+-- what the services of a node do at a message, a tick or an order: the services after it, the messages that are sent,
+-- and what ends with it
 pub record ServiceStep (Services : Type 0) : Type 0 where
   pub services : Services
   pub answers : List Message
@@ -40,7 +46,8 @@ sent_of (Some message) = message ∷ []
 
 -- ---- a drone's
 
--- the drone that is simulated, with the time of its simulator in milliseconds, its commands, its parameters, and its files
+-- the drone that is simulated, with the time of its simulator in milliseconds, its commands, its parameters, and its
+-- files
 pub record DroneServices : Type 0 where
   pub sim : SimState
   pub time : ℕ
@@ -72,7 +79,8 @@ user_params_from (suc more) n = user_param n ∷ user_params_from more (n + 1)
 -- the step of its simulator, its home, its name, and what users keep
 abbrev pub drone_params : Point → List Param
 drone_params home =
-    record { id = id_of (codes "SIM_STEP"); ty = 6; word = 1000 } ∷ int_param (codes "SIM_HOME_X") home.x ∷ int_param (codes "SIM_HOME_Y") home.y
+    record { id = id_of (codes "SIM_STEP"); ty = 6; word = 1000 } ∷ int_param (codes "SIM_HOME_X") home.x
+    ∷ int_param (codes "SIM_HOME_Y") home.y
     ∷ word_param (codes "SIM_NAME") ∷ user_params_from 36 1
 
 -- the services of a drone of that system at its start: it is disarmed at its home
@@ -110,7 +118,12 @@ drone_executes v e s = record {
 -- then its files
 abbrev pub drone_served : DroneServices → ExecutorStep → ServerState → FilesStep → ServiceStep DroneServices
 drone_served v e s f = record {
-  services = record v { sim = acts_by v.sim e.action; executor = e.executor; server = record s { waiting = [] }; files = f.files };
+  services = record v {
+    sim = acts_by v.sim e.action;
+    executor = e.executor;
+    server = record s { waiting = [] };
+    files = f.files;
+  };
   answers = (sent_of e.answer ++ s.waiting) ++ f.answers;
   last = [];
 }
@@ -118,7 +131,8 @@ drone_served v e s f = record {
 -- a message that is none of the mission protocol
 abbrev pub drone_serves : DroneState → DroneServices → Stream → Message → ServiceStep DroneServices
 drone_serves drone v from message =
-    drone_served v (executor_step v.executor from message (ready_of drone v)) (server_step v.server v.executor.me message) (files_step v.files v.executor.me from message)
+    drone_served v (executor_step v.executor from message (ready_of drone v))
+    (server_step v.server v.executor.me message) (files_step v.files v.executor.me from message)
 
 -- the mission is installed or emptied
 abbrev pub changes_mission : NodeEvent → Bool
@@ -140,7 +154,8 @@ step_of (negsuc n) = 1
 
 -- the value of SIM_STEP
 abbrev pub sim_step : ServerState → ℕ
-sim_step server = step_of (cast_signed w32 (unwrap_or (word_in server.params (place_of server.params (id_of (codes "SIM_STEP")))) 0))
+sim_step server = step_of (cast_signed w32
+    (unwrap_or (word_in server.params (place_of server.params (id_of (codes "SIM_STEP")))) 0))
 
 -- GLOBAL_POSITION_INT, at a time in milliseconds: the latitude and the longitude; the heading is unknown
 abbrev pub position_message : ℕ → Point → Message
@@ -236,7 +251,8 @@ station_served c p f = record {
 -- a message that is none of the mission protocol, and a tick
 abbrev pub station_serves : StationServices → Stream → Message → ServiceStep StationServices
 station_serves v from message =
-    station_served (commander_step v.commander from message) (client_step v.client from message) (transfer_heard v.files from message)
+    station_served (commander_step v.commander from message) (client_step v.client from message)
+    (transfer_heard v.files from message)
 
 abbrev pub station_waits : StationServices → ServiceStep StationServices
 station_waits v = station_served (commander_tick v.commander) (client_tick v.client) (transfer_waits v.files)

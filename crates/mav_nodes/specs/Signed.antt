@@ -34,4 +34,10 @@ sealed_packet extras packet = record packet { check = checksum packet (known_ext
 abbrev pub signed_packet : List ℕ → List (ℕ × ℕ) → Stream → ℕ → ℕ → Message → Packet
 signed_packet key extras me seq stamp message =
     let packet = sealed_packet extras (unsealed_packet me seq stamp message) in
-    record packet { block = Some record { link = me.link; stamp = stamp; sig = signature_of key packet me.link stamp } }
+    record packet {
+      block = Some record {
+        link = me.link;
+        stamp = stamp;
+        sig = signature_of key packet me.link stamp;
+      };
+    }

@@ -27,7 +27,8 @@ IsStarted key sys home node = IsDrone (new_drone key sys home) node ⊎ FromImag
 -- from these contents of its store: anew if they are empty, and else with the low bound and the plans of the image
 pub record StartedFrom (key : List ℕ) (sys : ℕ) (home : Point) (bytes : List ℕ) (node : DroneView) : Type 0 where
   pub anew : bytes ≡ [] → IsDrone (new_drone key sys home) node
-  pub stored : (low : ℕ) (plans : Plans) → IsImageOf sys low plans bytes → IsDrone (stored_drone key sys home low plans) node
+  pub stored : (low : ℕ) (plans : Plans) → IsImageOf sys low plans bytes
+      → IsDrone (stored_drone key sys home low plans) node
   pub either : (bytes ≡ []) ⊎ IsImage sys bytes
 
 -- it doesn't start: a call of the store has failed, or the contents are neither empty nor an image of the system

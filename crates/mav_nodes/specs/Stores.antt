@@ -1,7 +1,7 @@
 -- What the store of a node holds, and what a call of the node does to it.
 use Rattle.std.specs.Prelude.{ℕ, ◌≡◌, ◌≤◌, ◌⊎◌, Bool, true, List, [], Option, Some, None, IfSome, All, unwrap_or}
 use Rattle.plan_items.specs.declared.messages.PlanMsg.{PlanMsg}
-use Rattle.mav_ports.specs.Counts.{Rose}
+use Rattle.mav_ports.specs.Counts.{Rose, next_count}
 use Rattle.plan_store.specs.declared.keepers.KeepFault.{KeepFault}
 use Rattle.plan_store.specs.declared.keepers.KeepFault.TheVariants.{Store as KeptStore, NoMemory as KeptNoMemory}
 use Rattle.mav_nodes.specs.declared.faults.NodeFault.{NodeFault}
@@ -35,21 +35,26 @@ IsRaised old new = (new ≡ old) ⊎ ((bound : ℕ) × (new ≡ Some bound) × (
 
 -- the contents are what is stored with this low bound, or with a later one
 abbrev pub HoldsFrom : Option (List ℕ) → (ℕ → List ℕ → Type 0) → Option ℕ → Type 0
-HoldsFrom contents stored low = Holds contents stored low ⊎ ((bound : ℕ) × (unwrap_or low 0 ≤ bound) × IfSome contents (stored bound))
+HoldsFrom contents stored low = Holds contents stored low
+    ⊎ ((bound : ℕ) × (unwrap_or low 0 ≤ bound) × IfSome contents (stored bound))
 
--- what the store has of a node that is given up: what is stored of one of these cores with this low bound, or with a later one
-pub record GivenUp {Core : Type 0} (contents : Option (List ℕ)) (stored : Core → ℕ → List ℕ → Type 0) (low : Option ℕ) (MayBe : Core → Type 0) : Type 0 where
+-- what the store has of a node that is given up: what is stored of one of these cores with this low bound, or with a
+-- later one
+pub record GivenUp {Core : Type 0} (contents : Option (List ℕ)) (stored : Core → ℕ → List ℕ → Type 0) (low : Option ℕ)
+    (MayBe : Core → Type 0) : Type 0 where
   pub core : Core
   pub may_be : MayBe core
   pub holds : HoldsFrom contents (stored core) low
 
 -- what any call does to a store: its count of faults doesn't fall, and one that can't fail stays so
-pub record Serves {Store : Type 0} (faults : Store → ℕ) (is_infallible : Store → Type 0) (before now : Store) : Type 0 where
+pub record Serves {Store : Type 0} (faults : Store → ℕ) (is_infallible : Store → Type 0)
+    (before now : Store) : Type 0 where
   pub count : faults before ≤ faults now
   pub infallible : is_infallible before → is_infallible now
 
 -- a call of the store has failed
-pub record HasFailed {Store : Type 0} (faults : Store → ℕ) (is_infallible : Store → Type 0) (before now : Store) : Type 0 where
+pub record HasFailed {Store : Type 0} (faults : Store → ℕ) (is_infallible : Store → Type 0)
+    (before now : Store) : Type 0 where
   pub count : Rose (faults before) (faults now)
   pub fallible : is_infallible before → ⊥
 
@@ -67,7 +72,15 @@ fault_of KeptStore = Store
 fault_of KeptNoMemory = NoMemory
 
 -- a call of a node fails: if by its store, a call of the store has failed; and no store's fault is want of timestamps
-abbrev pub HasFailedAt : {Store : Type 0} → NodeFault → (faults : Store → ℕ) → (is_infallible : Store → Type 0) → (before now : Store) → Type 0
+abbrev pub HasFailedAt : {Store : Type 0} → NodeFault → (faults : Store → ℕ) → (is_infallible : Store → Type 0)
+    → (before now : Store) → Type 0
 HasFailedAt StampsSpent faults is_infallible before now = ⊥
 HasFailedAt Store faults is_infallible before now = HasFailed faults is_infallible before now
 HasFailedAt NoMemory faults is_infallible before now = Unit {0}
+
+-- a step ends by a store that had what was stored only if two of its calls failed: the save, and the look at what it
+-- has
+abbrev pub HasFailedTwice : NodeFault → Option (List ℕ) → (ℕ → List ℕ → Type 0) → Option ℕ → (before now : ℕ) → Type 0
+HasFailedTwice Store contents stored low before now =
+    (old : List ℕ) × AreStored stored low old × IfSome contents (λ kept. kept ≡ old → Rose (next_count before) now)
+HasFailedTwice fault contents stored low before now = Unit {0}

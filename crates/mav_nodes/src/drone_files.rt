@@ -39,7 +39,8 @@ pub(crate) fn serve_files(
     answers: &mut Vec<Message>,
 ) -> Result<(), NoMemory>
     ensures files { OnOk result (server.new ≡ (files_step server.old me from message.now).files) }
-    ensures answers { OnOk result (answers.new.items ≡ answers.old.items ++ (files_step server.old me from message.now).answers) }
+    ensures answers { OnOk result (answers.new.items ≡ answers.old.items
+        ++ (files_step server.old me from message.now).answers) }
 {
     let Message::FileTransferProtocol(request) = message else {
         return Ok(());

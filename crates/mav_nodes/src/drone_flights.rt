@@ -2,7 +2,8 @@
 ghost use Rattle.std.specs.Prelude.{◌≡◌, ◌++◌, ◌∷◌, map, IfOk, OnOk};
 ghost use Rattle.drone_sim.specs.Sim.{SimTick, news_of};
 ghost use Rattle.mav_nodes.specs.News.{events_of, shown};
-ghost use Rattle.mav_nodes.specs.Services.{step_of, sim_step as sim_step_of, position_message, reached_messages, reached_events, captured_events};
+ghost use Rattle.mav_nodes.specs.Services.{step_of, sim_step as sim_step_of, position_message, reached_messages};
+ghost use Rattle.mav_nodes.specs.Services.{reached_events, captured_events};
 
 use crate::drone_params::STEP;
 use crate::news::report;
@@ -54,7 +55,8 @@ fn tell_reached(
     last: &mut Vec<News>,
 ) -> Result<(), NoMemory>
     ensures answers { OnOk result (answers.new.items ≡ answers.old.items ++ reached_messages reached) }
-    ensures last { OnOk result (events_of last.new.items ≡ events_of last.old.items ++ map shown (reached_events reached)) }
+    ensures last { OnOk result (events_of last.new.items ≡ events_of last.old.items
+        ++ map shown (reached_events reached)) }
 {
     let Some(seq) = reached else {
         return Ok(());
@@ -68,7 +70,8 @@ fn tell_reached(
 
 // The total of pictures, if one was taken.
 fn tell_captured(captured: bool, total: u32, last: &mut Vec<News>) -> Result<(), NoMemory>
-    ensures { OnOk result (events_of last.new.items ≡ events_of last.old.items ++ map shown (captured_events captured total)) }
+    ensures { OnOk result (events_of last.new.items ≡ events_of last.old.items
+        ++ map shown (captured_events captured total)) }
 {
     if !captured {
         return Ok(());
@@ -83,8 +86,11 @@ pub(crate) fn say_flight(
     news: &SimNews,
     total: u32,
 ) -> Result<Served, NoMemory>
-    ensures answers { IfOk result (λ served. (tick : SimTick) → news.now ≡ news_of tick → served.answers.items ≡ position_message time tick.sim.position ∷ reached_messages tick.reached) }
-    ensures last { IfOk result (λ served. (tick : SimTick) → news.now ≡ news_of tick → events_of served.last.items ≡ map shown (reached_events tick.reached ++ captured_events tick.captured total)) }
+    ensures answers { IfOk result (λ served. (tick : SimTick) → news.now ≡ news_of tick
+        → served.answers.items ≡ position_message time tick.sim.position ∷ reached_messages tick.reached) }
+    ensures last { IfOk result (λ served. (tick : SimTick) → news.now ≡ news_of tick
+        → events_of served.last.items ≡ map shown
+        (reached_events tick.reached ++ captured_events tick.captured total)) }
 {
     let mut answers = Vec::new(alloc);
     let mut last = Vec::new(alloc);

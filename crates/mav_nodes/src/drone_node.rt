@@ -3,7 +3,8 @@ ghost use Rattle.std.specs.Prelude.{◌≡◌, ◌++◌, ℕ, List, Bool, false,
 ghost use Rattle.mav_nodes.specs.Stores.{Serves, HasFailed, AllKept};
 ghost use Rattle.mav_nodes.specs.Images.{StoreHolds, StoreHoldsFrom};
 ghost use Rattle.mav_nodes.specs.GivenUp.{DroneGivenUp};
-ghost use Rattle.mav_nodes.specs.Nodes.{DroneSide, IsDrone, new_drone, drone_receives, drone_receives_keeping, drone_ticks, drone_beats, drone_sims};
+ghost use Rattle.mav_nodes.specs.Nodes.{DroneSide, IsDrone, new_drone, drone_receives, drone_receives_keeping};
+ghost use Rattle.mav_nodes.specs.Nodes.{drone_ticks, drone_beats, drone_sims};
 ghost use Rattle.mav_nodes.specs.Promises.{DroneDid, DroneDidKeeping, Fails, FailsKeeping};
 ghost use Rattle.mav_nodes.specs.Restarts.{stored_drone};
 ghost use Rattle.mav_nodes.specs.Services.{new_drone_services};
@@ -27,12 +28,12 @@ use std::alloc::Global;
 use std::marker::Model;
 
 /// A drone over datagrams, which keeps its plans in a store: the one that it was started with is handed to each call.
-/// Contracts see its end of the links, its plan core, and its services: it executes commands, serves parameters and files,
-/// and flies as a simulated drone.
+/// Contracts see its end of the links, its plan core, and its services: it executes commands, serves parameters and
+/// files, and flies as a simulated drone.
 ///
 /// It saves before a timestamp above the stored low bound is admitted or sent, and before its plans change. If a save
-/// fails it loads, and what the store then has decides: a change of plans that isn't stored is refused, and a bound that
-/// isn't stored is a fault, after which the node isn't used again.
+/// fails it loads, and what the store then has decides: a change of plans that isn't stored is refused, and a bound
+/// that isn't stored is a fault, after which the node isn't used again.
 pub struct DroneNode {
     alloc: Global,
     link: Link,
@@ -67,8 +68,8 @@ impl Model for DroneNode {
 fn discard(_drone: Drone) {}
 
 impl DroneNode {
-    /// The drone of this system, disarmed at that location, in units of 1e-7 degrees, with the plans that the store has
-    /// and with its low bound of timestamps; with empty plans if the store is empty. It knows the messages of the
+    /// The drone of this system, disarmed at that location, in units of 1e-7 degrees, with the plans that the store
+    /// has and with its low bound of timestamps; with empty plans if the store is empty. It knows the messages of the
     /// profile. All its memory is allocated here, but for the news, what is stored, and its files.
     pub fn start<K: Keeper>(
         alloc: Global,
@@ -79,11 +80,13 @@ impl DroneNode {
         keeper: &mut K,
     ) -> Result<DroneNode, StartFault>
         ensures started { IfOk result (IsStarted key sys (record { x = x; y = y })) }
-        ensures from { IfSome (K.contents keeper.old) (λ bytes. IfOk result (StartedFrom key sys (record { x = x; y = y }) bytes)) }
+        ensures from { IfSome (K.contents keeper.old)
+            (λ bytes. IfOk result (StartedFrom key sys (record { x = x; y = y }) bytes)) }
         ensures stream { IfOk result (λ node. HasRead [] [] node.link) }
         ensures stays { K.contents keeper.new ≡ K.contents keeper.old }
         ensures serves { Serves K.faults K.is_infallible keeper.old keeper.new }
-        ensures fault { IfErr result (λ fault. StartFails fault sys (K.contents keeper.old) (HasFailed K.faults K.is_infallible keeper.old keeper.new)) }
+        ensures fault { IfErr result (λ fault. StartFails fault sys (K.contents keeper.old)
+            (HasFailed K.faults K.is_infallible keeper.old keeper.new)) }
     {
         let bytes = keeper.load()?;
         DroneNode::loaded(alloc, key, sys, x, y, &bytes)
@@ -134,7 +137,8 @@ impl DroneNode {
         y: i32,
         kept: &Kept,
     ) -> Result<DroneNode, StartFault>
-        ensures restored { IfOk result (λ node. IsDrone (stored_drone key sys (record { x = x; y = y }) kept.now.low kept.now.plans) node) }
+        ensures restored { IfOk result (λ node. IsDrone
+            (stored_drone key sys (record { x = x; y = y }) kept.now.low kept.now.plans) node) }
         ensures stream { IfOk result (λ node. HasRead [] [] node.link) }
         ensures fault { IfErr result (λ fault. fault ≡ StartFault.NoMemory) }
     {
@@ -157,7 +161,8 @@ impl DroneNode {
         x: i32,
         y: i32,
     ) -> Result<DroneNode, StartFault>
-        ensures made { IfOk result (λ node. node ≡ record { link = link; drone = drone; services = new_drone_services sys (record { x = x; y = y }) }) }
+        ensures made { IfOk result (λ node. node
+            ≡ record { link = link; drone = drone; services = new_drone_services sys (record { x = x; y = y }) }) }
         ensures fault { IfErr result (λ fault. fault ≡ StartFault.NoMemory) }
     {
         match DroneServices::new(alloc, sys, x, y) {
@@ -206,8 +211,8 @@ impl DroneNode {
         &self.drone
     }
 
-    /// Takes a datagram as a whole input by itself: each of its frames in order, and each reply is sent before the next
-    /// frame is tried.
+    /// Takes a datagram as a whole input by itself: each of its frames in order, and each reply is sent before the
+    /// next frame is tried.
     pub fn receive<K: Keeper>(
         &mut self,
         datagram: &Datagram<'_>,
@@ -215,19 +220,26 @@ impl DroneNode {
         keeper: &mut K,
     ) -> Result<Vec<News>, NodeFault>
         ensures done { IfOk result (λ news. (node : DroneSide) → IsDrone node self.old
-            → DroneDidKeeping (λ (keeps : List Bool). drone_receives_keeping clock keeps datagram.now node) (AllKept (HasFailed K.faults K.is_infallible keeper.old keeper.new)) self.new news.items) }
-        ensures infallible { IfOk result (λ news. (node : DroneSide) → IsDrone node self.old → K.is_infallible keeper.old
+            → DroneDidKeeping (λ (keeps : List Bool). drone_receives_keeping clock keeps datagram.now node)
+            (AllKept (HasFailed K.faults K.is_infallible keeper.old keeper.new)) self.new news.items) }
+        ensures infallible { IfOk result (λ news. (node : DroneSide) → IsDrone node self.old
+            → K.is_infallible keeper.old
             → DroneDid (drone_receives clock datagram.now node) self.new [] news.items) }
-        ensures stored { OnOk result (StoreHolds (K.contents keeper.old) self.old → StoreHolds (K.contents keeper.new) self.new) }
-        ensures given { IfErr result (λ fault. StoreHolds (K.contents keeper.old) self.old → (node : DroneSide) → IsDrone node self.old
-            → DroneGivenUp clock (AllKept (HasFailed K.faults K.is_infallible keeper.old keeper.new)) (K.contents keeper.new) (frames_of (final_parse node.link.extras false datagram.now)) node) }
+        ensures stored { OnOk result (StoreHolds (K.contents keeper.old) self.old
+            → StoreHolds (K.contents keeper.new) self.new) }
+        ensures given { IfErr result (λ fault. StoreHolds (K.contents keeper.old) self.old → (node : DroneSide)
+            → IsDrone node self.old
+            → DroneGivenUp clock (AllKept (HasFailed K.faults K.is_infallible keeper.old keeper.new))
+            (K.contents keeper.new) (frames_of (final_parse node.link.extras false datagram.now)) node) }
         ensures reader { reader_of self.new.link.endpoint ≡ reader_of self.old.link.endpoint }
         ensures serves { Serves K.faults K.is_infallible keeper.old keeper.new }
         ensures fault { IfErr result (λ fault. FailsKeeping fault (λ (node : DroneSide). IsDrone node self.old)
             (λ (keeps : List Bool) (node : DroneSide). drone_receives_keeping clock keeps datagram.now node)
-            (AllKept (HasFailed K.faults K.is_infallible keeper.old keeper.new)) (HasFailed K.faults K.is_infallible keeper.old keeper.new)) }
+            (AllKept (HasFailed K.faults K.is_infallible keeper.old keeper.new))
+            (HasFailed K.faults K.is_infallible keeper.old keeper.new)) }
         ensures infallible_fault { IfErr result (λ fault. K.is_infallible keeper.old
-            → Fails fault (λ (node : DroneSide). IsDrone node self.old) (λ (node : DroneSide). drone_receives clock datagram.now node) ⊥) }
+            → Fails fault (λ (node : DroneSide). IsDrone node self.old)
+            (λ (node : DroneSide). drone_receives clock datagram.now node) ⊥) }
     {
         node::receive(
             self.alloc,
@@ -241,9 +253,9 @@ impl DroneNode {
         )
     }
 
-    /// Takes a piece of a stream, which may cut frames anywhere: each frame by which the parse of the stream grows with it,
-    /// in order, and each reply is sent before the next frame is tried. Returns how many bytes it took, which is all of
-    /// them.
+    /// Takes a piece of a stream, which may cut frames anywhere: each frame by which the parse of the stream grows
+    /// with it, in order, and each reply is sent before the next frame is tried. Returns how many bytes it took, which
+    /// is all of them.
     pub fn part<K: Keeper>(
         &mut self,
         piece: &[u8],
@@ -251,14 +263,22 @@ impl DroneNode {
         keeper: &mut K,
     ) -> Result<(usize, Vec<News>), NodeFault>
         ensures count { IfOk result (λ part. part.0 ≡ length piece.now) }
-        ensures done { IfOk result (λ part. (node : DroneSide) (taken : List ℕ) (given : List Event) → IsDrone node self.old → HasRead taken given self.old.link
-            → DronePart clock node (taken ++ piece.now) given (AllKept (HasFailed K.faults K.is_infallible keeper.old keeper.new)) self.new part.1.items) }
-        ensures stored { OnOk result (StoreHolds (K.contents keeper.old) self.old → StoreHolds (K.contents keeper.new) self.new) }
-        ensures given { IfErr result (λ fault. StoreHolds (K.contents keeper.old) self.old → (node : DroneSide) (taken : List ℕ) (given events : List Event) → IsDrone node self.old → HasRead taken given self.old.link
+        ensures done { IfOk result (λ part. (node : DroneSide) (taken : List ℕ) (given : List Event)
+            → IsDrone node self.old → HasRead taken given self.old.link
+            → DronePart clock node (taken ++ piece.now) given
+            (AllKept (HasFailed K.faults K.is_infallible keeper.old keeper.new)) self.new part.1.items) }
+        ensures stored { OnOk result (StoreHolds (K.contents keeper.old) self.old
+            → StoreHolds (K.contents keeper.new) self.new) }
+        ensures given { IfErr result (λ fault. StoreHolds (K.contents keeper.old) self.old
+            → (node : DroneSide) (taken : List ℕ) (given events : List Event) → IsDrone node self.old
+            → HasRead taken given self.old.link
             → GrowsBy self.old.link.endpoint.extras (taken ++ piece.now) given events
-            → DroneGivenUp clock (AllKept (HasFailed K.faults K.is_infallible keeper.old keeper.new)) (K.contents keeper.new) (frames_of events) node) }
+            → DroneGivenUp clock (AllKept (HasFailed K.faults K.is_infallible keeper.old keeper.new))
+            (K.contents keeper.new) (frames_of events) node) }
         ensures serves { Serves K.faults K.is_infallible keeper.old keeper.new }
-        ensures fault { IfErr result (λ fault. DronePartFails fault clock self.old piece.now (AllKept (HasFailed K.faults K.is_infallible keeper.old keeper.new)) (HasFailed K.faults K.is_infallible keeper.old keeper.new)) }
+        ensures fault { IfErr result (λ fault. DronePartFails fault clock self.old piece.now
+            (AllKept (HasFailed K.faults K.is_infallible keeper.old keeper.new))
+            (HasFailed K.faults K.is_infallible keeper.old keeper.new)) }
     {
         node::part(
             self.alloc,
@@ -275,11 +295,14 @@ impl DroneNode {
     pub fn tick<K: Keeper>(&mut self, clock: u64, keeper: &mut K) -> Result<Vec<News>, NodeFault>
         ensures done { IfOk result (λ news. (node : DroneSide) → IsDrone node self.old
             → DroneDid (drone_ticks clock node) self.new [] news.items) }
-        ensures stored { OnOk result (StoreHolds (K.contents keeper.old) self.old → StoreHolds (K.contents keeper.new) self.new) }
-        ensures given { IfErr result (λ fault. StoreHolds (K.contents keeper.old) self.old → StoreHoldsFrom (K.contents keeper.new) self.old) }
+        ensures stored { OnOk result (StoreHolds (K.contents keeper.old) self.old
+            → StoreHolds (K.contents keeper.new) self.new) }
+        ensures given { IfErr result (λ fault. StoreHolds (K.contents keeper.old) self.old
+            → StoreHoldsFrom (K.contents keeper.new) self.old) }
         ensures reader { reader_of self.new.link.endpoint ≡ reader_of self.old.link.endpoint }
         ensures serves { Serves K.faults K.is_infallible keeper.old keeper.new }
-        ensures fault { IfErr result (λ fault. Fails fault (λ (node : DroneSide). IsDrone node self.old) (λ (node : DroneSide). drone_ticks clock node)
+        ensures fault { IfErr result (λ fault. Fails fault (λ (node : DroneSide). IsDrone node self.old)
+            (λ (node : DroneSide). drone_ticks clock node)
             (HasFailed K.faults K.is_infallible keeper.old keeper.new)) }
     {
         node::tick(
@@ -297,11 +320,14 @@ impl DroneNode {
     pub fn sim<K: Keeper>(&mut self, clock: u64, keeper: &mut K) -> Result<Vec<News>, NodeFault>
         ensures done { IfOk result (λ news. (node : DroneSide) → IsDrone node self.old
             → DroneDid (drone_sims clock node) self.new [] news.items) }
-        ensures stored { OnOk result (StoreHolds (K.contents keeper.old) self.old → StoreHolds (K.contents keeper.new) self.new) }
-        ensures given { IfErr result (λ fault. StoreHolds (K.contents keeper.old) self.old → StoreHoldsFrom (K.contents keeper.new) self.old) }
+        ensures stored { OnOk result (StoreHolds (K.contents keeper.old) self.old
+            → StoreHolds (K.contents keeper.new) self.new) }
+        ensures given { IfErr result (λ fault. StoreHolds (K.contents keeper.old) self.old
+            → StoreHoldsFrom (K.contents keeper.new) self.old) }
         ensures reader { reader_of self.new.link.endpoint ≡ reader_of self.old.link.endpoint }
         ensures serves { Serves K.faults K.is_infallible keeper.old keeper.new }
-        ensures fault { IfErr result (λ fault. Fails fault (λ (node : DroneSide). IsDrone node self.old) (λ (node : DroneSide). drone_sims clock node)
+        ensures fault { IfErr result (λ fault. Fails fault (λ (node : DroneSide). IsDrone node self.old)
+            (λ (node : DroneSide). drone_sims clock node)
             (HasFailed K.faults K.is_infallible keeper.old keeper.new)) }
     {
         let served = self.services.fly(self.alloc, &self.drone)?;
@@ -326,11 +352,14 @@ impl DroneNode {
     ) -> Result<Vec<News>, NodeFault>
         ensures done { IfOk result (λ news. (node : DroneSide) → IsDrone node self.old
             → DroneDid (drone_beats clock node) self.new [] news.items) }
-        ensures stored { OnOk result (StoreHolds (K.contents keeper.old) self.old → StoreHolds (K.contents keeper.new) self.new) }
-        ensures given { IfErr result (λ fault. StoreHolds (K.contents keeper.old) self.old → StoreHoldsFrom (K.contents keeper.new) self.old) }
+        ensures stored { OnOk result (StoreHolds (K.contents keeper.old) self.old
+            → StoreHolds (K.contents keeper.new) self.new) }
+        ensures given { IfErr result (λ fault. StoreHolds (K.contents keeper.old) self.old
+            → StoreHoldsFrom (K.contents keeper.new) self.old) }
         ensures reader { reader_of self.new.link.endpoint ≡ reader_of self.old.link.endpoint }
         ensures serves { Serves K.faults K.is_infallible keeper.old keeper.new }
-        ensures fault { IfErr result (λ fault. Fails fault (λ (node : DroneSide). IsDrone node self.old) (λ (node : DroneSide). drone_beats clock node)
+        ensures fault { IfErr result (λ fault. Fails fault (λ (node : DroneSide). IsDrone node self.old)
+            (λ (node : DroneSide). drone_beats clock node)
             (HasFailed K.faults K.is_infallible keeper.old keeper.new)) }
     {
         let message = drone_heartbeat(self.services.sim().armed());

@@ -44,8 +44,8 @@ fn int_param(id: [u8; 16], number: i32) -> Param
     }
 }
 
-/// The parameters of a drone whose home is at x and y, in units of 1e-7 degrees: the step of its simulator, its home, its
-/// name, and what users keep.
+/// The parameters of a drone whose home is at x and y, in units of 1e-7 degrees: the step of its simulator, its home,
+/// its name, and what users keep.
 pub(crate) fn drone_params(alloc: Global, x: i32, y: i32) -> Result<Vec<Param>, NoMemory>
     ensures { IfOk result (λ params. params.items ≡ drone_params (record { x = x; y = y })) }
 {

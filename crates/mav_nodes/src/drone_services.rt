@@ -5,7 +5,8 @@ ghost use Rattle.param_proto.specs.Server.{new_server, server_step};
 ghost use Rattle.mav_nodes.specs.News.{Shows_emptied};
 ghost use Rattle.mav_nodes.specs.Cores.{IsServed, said_of_plans, shows_mission};
 ghost use Rattle.command_proto.specs.Executor.{executor_step};
-ghost use Rattle.mav_nodes.specs.Services.{drone_params, new_drone_services, drone_flies, drone_executes, ready_of, acts_by, sent_of};
+ghost use Rattle.mav_nodes.specs.Services.{drone_params, new_drone_services, drone_flies, drone_executes, ready_of};
+ghost use Rattle.mav_nodes.specs.Services.{acts_by, sent_of};
 
 use crate::NoMemory;
 use crate::drone_files::serve_files;
@@ -27,8 +28,8 @@ use std::marker::Model;
 // So many milliseconds pass in one tick of the simulator.
 const TICK: u32 = 1_000;
 
-/// Executes commands, serves parameters and files, and flies the drone: the time in milliseconds since its start is that of the
-/// simulator.
+/// Executes commands, serves parameters and files, and flies the drone: the time in milliseconds since its start is
+/// that of the simulator.
 #[derive(Drop)]
 pub(crate) struct DroneServices {
     sim: Sim,
@@ -43,7 +44,13 @@ impl Model for DroneServices {
 
     ghost Value = { DroneServices };
 
-    ghost view = { λ v. record { sim = v.sim; time = v.time; executor = v.executor; server = v.server; files = v.files } };
+    ghost view = { λ v. record {
+      sim = v.sim;
+      time = v.time;
+      executor = v.executor;
+      server = v.server;
+      files = v.files;
+    } };
 }
 
 fn is_mission(kind: PlanKind) -> bool
@@ -117,7 +124,8 @@ impl DroneServices {
           sim = acts_by self.old.sim (executor_step self.old.executor from message.now ready).action;
           executor = (executor_step self.old.executor from message.now ready).executor;
         }) }
-        ensures answers { OnOk result (answers.new.items ≡ answers.old.items ++ sent_of (executor_step self.old.executor from message.now ready).answer) }
+        ensures answers { OnOk result (answers.new.items ≡ answers.old.items
+            ++ sent_of (executor_step self.old.executor from message.now ready).answer) }
     {
         let Some((answer, action)) = self.executor.step(from, message, ready) else {
             return Ok(());
@@ -136,7 +144,9 @@ impl DroneServices {
         from: Stream,
         message: &Message,
     ) -> Result<Served, NoMemory>
-        ensures { IfOk result (IsServed (drone_executes self.old (executor_step self.old.executor from message.now (ready_of core.now self.old)) (server_step self.old.server self.old.executor.me message.now)) self.new) }
+        ensures { IfOk result (IsServed (drone_executes self.old
+            (executor_step self.old.executor from message.now (ready_of core.now self.old))
+            (server_step self.old.server self.old.executor.me message.now)) self.new) }
     {
         let me = self.executor.me();
         let planned = core.plan(PlanKind::Mission).len() > 0;

@@ -22,7 +22,14 @@ pub(crate) fn station_heartbeat() -> Message
 }
 
 fn heartbeat(ty: u8, autopilot: u8, base_mode: u8) -> Message
-    ensures { result ≡ Message.Heartbeat (record { ty = ty; autopilot = autopilot; base_mode = base_mode; custom_mode = 0; system_status = 4; mavlink_version = 3 }) }
+    ensures { result ≡ Message.Heartbeat (record {
+      ty = ty;
+      autopilot = autopilot;
+      base_mode = base_mode;
+      custom_mode = 0;
+      system_status = 4;
+      mavlink_version = 3;
+    }) }
 {
     Message::Heartbeat(Heartbeat {
         ty,

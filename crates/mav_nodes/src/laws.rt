@@ -1,5 +1,7 @@
 //! Laws of what nodes send: functions without a body, whose contract is the law.
-ghost use Rattle.mav_nodes.specs.Laws.{ParsesAlone, SignedVerifies, PlanReadsBack, ServiceReadsBack, EverySendingReadsBack, EveryFrameReadsAlone, SameBytesSameFrame, HeartbeatsFit, FlightsFit};
+ghost use Rattle.mav_nodes.specs.Laws.{ParsesAlone, SignedVerifies, PlanReadsBack, ServiceReadsBack};
+ghost use Rattle.mav_nodes.specs.Laws.{EverySendingReadsBack, EveryFrameReadsAlone, SameBytesSameFrame, HeartbeatsFit};
+ghost use Rattle.mav_nodes.specs.Laws.{FlightsFit};
 
 /// The bytes of a frame parse to exactly that frame.
 pub fn parses_alone()

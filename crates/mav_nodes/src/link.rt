@@ -1,5 +1,6 @@
 // A node's end of its links.
-ghost use Rattle.std.specs.Prelude.{◌≡◌, ◌≤◌, ◌<◌, ◌^◌, ◌++◌, ℕ, List, [], Option, map, Some, None, length, take, IfOk, IfErr, OnOk, IfSome};
+ghost use Rattle.std.specs.Prelude.{◌≡◌, ◌≤◌, ◌<◌, ◌^◌, ◌++◌, ℕ, List, [], Option, map, Some, None, length, take};
+ghost use Rattle.std.specs.Prelude.{IfOk, IfErr, OnOk, IfSome};
 ghost use Rattle.std.specs.Result.{result_err};
 ghost use Rattle.mav_profile.specs.Messages.{extras_of};
 ghost use Rattle.mav_profile.specs.Profile.{profile_definitions};
@@ -15,8 +16,10 @@ ghost use Rattle.mav_sign.specs.Signing.{verified};
 ghost use Rattle.mav_sign.specs.Streams.{reader_of, ReadTo};
 ghost use Rattle.mav_frame.specs.declared.events.Event.{Event};
 ghost use Rattle.mav_nodes.specs.LowBounds.{bound_for, raised, raised_for, raised_if};
-ghost use Rattle.mav_nodes.specs.Stores.{Holds, HoldsNearly, StoredBefore, Serves, HasFailed, HasFailedAt, HoldsFrom, IsRaised};
-ghost use Rattle.mav_nodes.specs.Links.{Link as LinkState, IsEnd, IsLink, new_link, started_link, tries, sends, sends_all};
+ghost use Rattle.mav_nodes.specs.Stores.{Holds, HoldsNearly, StoredBefore, Serves, HasFailed, HasFailedAt, HoldsFrom};
+ghost use Rattle.mav_nodes.specs.Stores.{IsRaised};
+ghost use Rattle.mav_nodes.specs.Links.{Link as LinkState, IsEnd, IsLink, new_link, started_link, tries, sends};
+ghost use Rattle.mav_nodes.specs.Links.{sends_all};
 ghost use Rattle.mav_nodes.specs.News.{NodeEvent, shown};
 ghost use Rattle.mav_nodes.specs.Steps.{answers};
 ghost use Rattle.mav_nodes.specs.Cores.{said_of_plans, said_of_outcome, says};
@@ -43,8 +46,8 @@ const HEADROOM: u64 = 5_000;
 // The greatest timestamp of 6 bytes.
 const GREATEST_STAMP: u64 = 0xFFFF_FFFF_FFFF;
 
-/// An endpoint, which knows the messages of the profile, and the low bound of timestamps that the node's store has, if it
-/// has one. Contracts see both.
+/// An endpoint, which knows the messages of the profile, and the low bound of timestamps that the node's store has, if
+/// it has one. Contracts see both.
 #[derive(Drop)]
 pub(crate) struct Link {
     alloc: Global,
@@ -87,7 +90,8 @@ fn profile_extras() -> Extras
 // The plan message of a message that a payload represents.
 fn plan_of(id: u32, payload: &[u8], message: &Message) -> Option<PlanMsg>
     ensures { profile_definition id ≡ Some (definition_of message.now)
-        → Represents (definition_of message.now) payload.now (values_of message.now) → result ≡ plan_in id payload.now }
+        → Represents (definition_of message.now) payload.now (values_of message.now)
+        → result ≡ plan_in id payload.now }
 {
     signed_fit(message);
     message.to_plan()
@@ -106,7 +110,8 @@ fn signed_fit(message: &Message)
 // The message for services that a payload represents, if it is one.
 fn service_of(_id: u32, _payload: &[u8], message: &Message) -> Option<Message>
     ensures { profile_definition _id ≡ Some (definition_of message.now)
-        → Represents (definition_of message.now) _payload.now (values_of message.now) → result ≡ service_in _id _payload.now }
+        → Represents (definition_of message.now) _payload.now (values_of message.now)
+        → result ≡ service_in _id _payload.now }
 {
     service_numbers_fit(message);
     as_service(message)
@@ -179,7 +184,8 @@ impl Link {
     /// A link that starts again with the low bound that was stored.
     pub(crate) fn start(alloc: Global, key: Key, me: Stream, low: u64) -> Result<Link, NoMemory>
         requires { low < 2 ^ 48 }
-        ensures started { IfOk result (λ link. IsLink (started_link key me (extras_of profile_definitions) (Some low)) link) }
+        ensures started { IfOk result (λ link. IsLink
+            (started_link key me (extras_of profile_definitions) (Some low)) link) }
         ensures stream { IfOk result (λ link. HasRead [] [] link) }
     {
         let endpoint = Endpoint::start(alloc, key, me, profile_extras(), low)?;
@@ -211,12 +217,13 @@ impl Link {
         self.low
     }
 
-    /// Takes bytes of a stream, and returns how many it took and the next frame of the stream, which isn't tried. Without a frame
-    /// it took the whole piece.
+    /// Takes bytes of a stream, and returns how many it took and the next frame of the stream, which isn't tried.
+    /// Without a frame it took the whole piece.
     pub(crate) fn read(&mut self, piece: &[u8]) -> (usize, Option<Frame>)
         ensures count { result.0 ≤ length piece.now }
         ensures read { (taken : List ℕ) (given : List Event) → HasRead taken given self.old
-            → ReadTo self.old.endpoint.extras (taken ++ take result.0 piece.now) given result.1 (reader_of self.new.endpoint) }
+            → ReadTo self.old.endpoint.extras (taken ++ take result.0 piece.now) given result.1
+            (reader_of self.new.endpoint) }
         ensures none { result.1 ≡ None → result.0 ≡ length piece.now }
         ensures link { (link : LinkState) → IsLink link self.old → IsLink link self.new }
         ensures low { self.new.low ≡ self.old.low }
@@ -247,11 +254,14 @@ impl Link {
     ) -> Result<(), NodeFault>
         requires { stamp < 2 ^ 48 }
         ensures low { OnOk result (self.new ≡ record self.old { low = raised self.old.low stamp }) }
-        ensures stored { OnOk result (Holds (K.contents keeper.old) (C.stored core.now) self.old.low → Holds (K.contents keeper.new) (C.stored core.now) self.new.low) }
-        ensures settled { OnOk result (1 ≤ stamp → HoldsNearly (K.contents keeper.old) (C.stored core.now) self.old.low → Holds (K.contents keeper.new) (C.stored core.now) self.new.low) }
+        ensures stored { OnOk result (Holds (K.contents keeper.old) (C.stored core.now) self.old.low
+            → Holds (K.contents keeper.new) (C.stored core.now) self.new.low) }
+        ensures settled { OnOk result (1 ≤ stamp → HoldsNearly (K.contents keeper.old) (C.stored core.now) self.old.low
+            → Holds (K.contents keeper.new) (C.stored core.now) self.new.low) }
         ensures endpoint { self.new.endpoint ≡ self.old.endpoint }
         ensures raised { IsRaised self.old.low self.new.low }
-        ensures given { IfErr result (λ fault. HoldsNearly (K.contents keeper.old) (C.stored core.now) self.old.low → HoldsFrom (K.contents keeper.new) (C.stored core.now) self.new.low) }
+        ensures given { IfErr result (λ fault. HoldsNearly (K.contents keeper.old) (C.stored core.now) self.old.low
+            → HoldsFrom (K.contents keeper.new) (C.stored core.now) self.new.low) }
         ensures serves { Serves K.faults K.is_infallible keeper.old keeper.new }
         ensures fault { IfErr result (λ fault. HasFailedAt fault K.faults K.is_infallible keeper.old keeper.new) }
     {
@@ -272,11 +282,16 @@ impl Link {
         core: &C,
         keeper: &mut K,
     ) -> Result<(), NodeFault>
-        ensures low { OnOk result (self.new ≡ record self.old { low = raised_if self.old.low answer frame.now.block }) }
-        ensures stored { OnOk result (Holds (K.contents keeper.old) (C.stored core.now) self.old.low → Holds (K.contents keeper.new) (C.stored core.now) self.new.low) }
+        ensures low { OnOk result (self.new ≡ record self.old {
+          low = raised_if self.old.low answer
+              frame.now.block;
+        }) }
+        ensures stored { OnOk result (Holds (K.contents keeper.old) (C.stored core.now) self.old.low
+            → Holds (K.contents keeper.new) (C.stored core.now) self.new.low) }
         ensures endpoint { self.new.endpoint ≡ self.old.endpoint }
         ensures raised { IsRaised self.old.low self.new.low }
-        ensures given { IfErr result (λ fault. HoldsNearly (K.contents keeper.old) (C.stored core.now) self.old.low → HoldsFrom (K.contents keeper.new) (C.stored core.now) self.new.low) }
+        ensures given { IfErr result (λ fault. HoldsNearly (K.contents keeper.old) (C.stored core.now) self.old.low
+            → HoldsFrom (K.contents keeper.new) (C.stored core.now) self.new.low) }
         ensures serves { Serves K.faults K.is_infallible keeper.old keeper.new }
         ensures fault { IfErr result (λ fault. HasFailedAt fault K.faults K.is_infallible keeper.old keeper.new) }
     {
@@ -295,9 +310,14 @@ impl Link {
         keeper: &mut K,
     ) -> Result<Admit, NodeFault>
         requires { verifies ≡ verified self.old.endpoint.key frame.now frame.now.block }
-        ensures answer { IfOk result (λ answer. (link : LinkState) → IsLink link self.old → answer ≡ answer_to link.key link.history frame.now) }
-        ensures link { OnOk result ((link : LinkState) → IsLink link self.old → IsLink (tries frame.now link) self.new) }
-        ensures keeps { LinkKeeps (result_err result) (Holds (K.contents keeper.old) (C.stored core.now) self.old.low) (Holds (K.contents keeper.new) (C.stored core.now) self.new.low) (HoldsFrom (K.contents keeper.new) (C.stored core.now) self.new.low) self.old self.new K.faults K.is_infallible keeper.old keeper.new }
+        ensures answer { IfOk result (λ answer. (link : LinkState) → IsLink link self.old
+            → answer ≡ answer_to link.key link.history frame.now) }
+        ensures link { OnOk result ((link : LinkState) → IsLink link self.old
+            → IsLink (tries frame.now link) self.new) }
+        ensures keeps { LinkKeeps (result_err result) (Holds (K.contents keeper.old) (C.stored core.now) self.old.low)
+            (Holds (K.contents keeper.new) (C.stored core.now) self.new.low)
+            (HoldsFrom (K.contents keeper.new) (C.stored core.now) self.new.low) self.old self.new K.faults
+            K.is_infallible keeper.old keeper.new }
         ensures fault { IfErr result (λ fault. HasFailedAt fault K.faults K.is_infallible keeper.old keeper.new) }
     {
         let answer = self.endpoint.test_judged(frame, verifies);
@@ -306,8 +326,8 @@ impl Link {
         Ok(answer)
     }
 
-    /// Tries one frame, of which it is known whether it verifies, and returns the message that it carries for the node. The store
-    /// has a bound for its timestamp before it is admitted.
+    /// Tries one frame, of which it is known whether it verifies, and returns the message that it carries for the
+    /// node. The store has a bound for its timestamp before it is admitted.
     #[inline]
     pub(crate) fn hear<K: Keeper, C: Core>(
         &mut self,
@@ -317,9 +337,14 @@ impl Link {
         keeper: &mut K,
     ) -> Result<Tried, NodeFault>
         requires { verifies ≡ verified self.old.endpoint.key frame.now frame.now.block }
-        ensures tried { IfOk result (λ tried. (link : LinkState) → IsLink link self.old → IsTried link frame.now tried) }
-        ensures link { OnOk result ((link : LinkState) → IsLink link self.old → IsLink (tries frame.now link) self.new) }
-        ensures keeps { LinkKeeps (result_err result) (Holds (K.contents keeper.old) (C.stored core.now) self.old.low) (Holds (K.contents keeper.new) (C.stored core.now) self.new.low) (HoldsFrom (K.contents keeper.new) (C.stored core.now) self.new.low) self.old self.new K.faults K.is_infallible keeper.old keeper.new }
+        ensures tried { IfOk result (λ tried. (link : LinkState) → IsLink link self.old
+            → IsTried link frame.now tried) }
+        ensures link { OnOk result ((link : LinkState) → IsLink link self.old
+            → IsLink (tries frame.now link) self.new) }
+        ensures keeps { LinkKeeps (result_err result) (Holds (K.contents keeper.old) (C.stored core.now) self.old.low)
+            (Holds (K.contents keeper.new) (C.stored core.now) self.new.low)
+            (HoldsFrom (K.contents keeper.new) (C.stored core.now) self.new.low) self.old self.new K.faults
+            K.is_infallible keeper.old keeper.new }
         ensures fault { IfErr result (λ fault. HasFailedAt fault K.faults K.is_infallible keeper.old keeper.new) }
     {
         let answer = self.admit(frame, verifies, core, keeper)?;
@@ -337,8 +362,13 @@ impl Link {
     ) -> Result<(), NodeFault>
         ensures sent { OnOk result ((link : LinkState) → IsLink link self.old
             → LinkDid (sends clock message.now link) self.new news.old.items news.new.items) }
-        ensures keeps { LinkKeeps (result_err result) (HoldsNearly (K.contents keeper.old) (C.stored core.now) self.old.low) (Holds (K.contents keeper.new) (C.stored core.now) self.new.low) (HoldsFrom (K.contents keeper.new) (C.stored core.now) self.new.low) self.old self.new K.faults K.is_infallible keeper.old keeper.new }
-        ensures fault { IfErr result (λ fault. Fails fault (λ (link : LinkState). IsLink link self.old) (λ (link : LinkState). sends clock message.now link)
+        ensures keeps { LinkKeeps (result_err result)
+            (HoldsNearly (K.contents keeper.old) (C.stored core.now) self.old.low)
+            (Holds (K.contents keeper.new) (C.stored core.now) self.new.low)
+            (HoldsFrom (K.contents keeper.new) (C.stored core.now) self.new.low) self.old self.new K.faults
+            K.is_infallible keeper.old keeper.new }
+        ensures fault { IfErr result (λ fault. Fails fault (λ (link : LinkState). IsLink link self.old)
+            (λ (link : LinkState). sends clock message.now link)
             (HasFailed K.faults K.is_infallible keeper.old keeper.new)) }
     {
         let stamp = self.endpoint.ahead(clock)?;
@@ -358,7 +388,8 @@ impl Link {
             → Did (sends clock message.now link) (λ end. IsEnd end self.new.endpoint) news.old.items news.new.items) }
         ensures low { self.new.low ≡ self.old.low }
         ensures reader { reader_of self.new.endpoint ≡ reader_of self.old.endpoint }
-        ensures fault { IfErr result (λ fault. Fails fault (λ (link : LinkState). IsEnd link self.old.endpoint) (λ (link : LinkState). sends clock message.now link) ⊥) }
+        ensures fault { IfErr result (λ fault. Fails fault (λ (link : LinkState). IsEnd link self.old.endpoint)
+            (λ (link : LinkState). sends clock message.now link) ⊥) }
     {
         let mut frame = SignedFrame::new();
         self.endpoint.send_bytes(message, clock, &mut frame)?;
@@ -376,8 +407,13 @@ impl Link {
     ) -> Result<(), NodeFault>
         ensures sent { OnOk result ((link : LinkState) → IsLink link self.old
             → LinkDid (answers clock answer link) self.new news.old.items news.new.items) }
-        ensures keeps { LinkKeeps (result_err result) (StoredBefore answer (K.contents keeper.old) (C.stored core.now) self.old.low) (Holds (K.contents keeper.new) (C.stored core.now) self.new.low) (HoldsFrom (K.contents keeper.new) (C.stored core.now) self.new.low) self.old self.new K.faults K.is_infallible keeper.old keeper.new }
-        ensures fault { IfErr result (λ fault. Fails fault (λ (link : LinkState). IsLink link self.old) (λ (link : LinkState). answers clock answer link)
+        ensures keeps { LinkKeeps (result_err result)
+            (StoredBefore answer (K.contents keeper.old) (C.stored core.now) self.old.low)
+            (Holds (K.contents keeper.new) (C.stored core.now) self.new.low)
+            (HoldsFrom (K.contents keeper.new) (C.stored core.now) self.new.low) self.old self.new K.faults
+            K.is_infallible keeper.old keeper.new }
+        ensures fault { IfErr result (λ fault. Fails fault (λ (link : LinkState). IsLink link self.old)
+            (λ (link : LinkState). answers clock answer link)
             (HasFailed K.faults K.is_infallible keeper.old keeper.new)) }
     {
         match answer {
@@ -400,8 +436,12 @@ impl Link {
     ) -> Result<(), NodeFault>
         ensures sent { OnOk result ((link : LinkState) → IsLink link self.old
             → LinkDid (sends_all clock messages.now link) self.new news.old.items news.new.items) }
-        ensures keeps { LinkKeeps (result_err result) (Holds (K.contents keeper.old) (C.stored core.now) self.old.low) (Holds (K.contents keeper.new) (C.stored core.now) self.new.low) (HoldsFrom (K.contents keeper.new) (C.stored core.now) self.new.low) self.old self.new K.faults K.is_infallible keeper.old keeper.new }
-        ensures fault { IfErr result (λ fault. Fails fault (λ (link : LinkState). IsLink link self.old) (λ (link : LinkState). sends_all clock messages.now link)
+        ensures keeps { LinkKeeps (result_err result) (Holds (K.contents keeper.old) (C.stored core.now) self.old.low)
+            (Holds (K.contents keeper.new) (C.stored core.now) self.new.low)
+            (HoldsFrom (K.contents keeper.new) (C.stored core.now) self.new.low) self.old self.new K.faults
+            K.is_infallible keeper.old keeper.new }
+        ensures fault { IfErr result (λ fault. Fails fault (λ (link : LinkState). IsLink link self.old)
+            (λ (link : LinkState). sends_all clock messages.now link)
             (HasFailed K.faults K.is_infallible keeper.old keeper.new)) }
     {
         let mut index = 0;
@@ -424,9 +464,14 @@ impl Link {
         ensures said { OnOk result ((link : LinkState) (first last : List NodeEvent) → IsLink link self.old
             → said_of_plans step.plans ≡ map shown first → said_of_outcome step.outcome ≡ map shown last
             → LinkDid (says clock first step.answer last link) self.new news.old.items news.new.items) }
-        ensures keeps { LinkKeeps (result_err result) (StoredBefore step.answer (K.contents keeper.old) (C.stored core.now) self.old.low) (Holds (K.contents keeper.new) (C.stored core.now) self.new.low) (HoldsFrom (K.contents keeper.new) (C.stored core.now) self.new.low) self.old self.new K.faults K.is_infallible keeper.old keeper.new }
+        ensures keeps { LinkKeeps (result_err result)
+            (StoredBefore step.answer (K.contents keeper.old) (C.stored core.now) self.old.low)
+            (Holds (K.contents keeper.new) (C.stored core.now) self.new.low)
+            (HoldsFrom (K.contents keeper.new) (C.stored core.now) self.new.low) self.old self.new K.faults
+            K.is_infallible keeper.old keeper.new }
         ensures fault { IfErr result (λ fault. (first last : List NodeEvent)
-            → Fails fault (λ (link : LinkState). IsLink link self.old) (λ (link : LinkState). says clock first step.answer last link)
+            → Fails fault (λ (link : LinkState). IsLink link self.old)
+            (λ (link : LinkState). says clock first step.answer last link)
             (HasFailed K.faults K.is_infallible keeper.old keeper.new)) }
     {
         tell_plans(news, step.plans)?;
@@ -437,7 +482,8 @@ impl Link {
 
 // The message that an admitted frame of a stream carries for the node.
 fn carried(from: Stream, frame: &RawFrame<'_>) -> Tried
-    ensures { (block : SignatureBlock) → from ≡ stream_of frame.now block → IsAnswer Admitted frame.now (Some block) result }
+    ensures { (block : SignatureBlock) → from ≡ stream_of frame.now block
+        → IsAnswer Admitted frame.now (Some block) result }
 {
     let id = frame.id();
     let payload = frame.payload();

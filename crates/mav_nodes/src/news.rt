@@ -45,8 +45,8 @@ pub enum News {
     Command(Option<u8>),
     /// The parameter that the station read or set has this value.
     Param(Param),
-    /// The station's list of parameters has ended with so many values; or, with None, what it asked of parameters has ended
-    /// without an answer.
+    /// The station's list of parameters has ended with so many values; or, with None, what it asked of parameters has
+    /// ended without an answer.
     Params(Option<u16>),
     /// The drone reached the item of this number.
     Reached(u16),
@@ -123,8 +123,8 @@ pub(crate) fn tell_sent(
     Ok(())
 }
 
-/// A frame that wasn't admitted. The compiler zeroes a function's locals whether they are used or not, so what is rare has
-/// a function of its own.
+/// A frame that wasn't admitted. The compiler zeroes a function's locals whether they are used or not, so what is rare
+/// has a function of its own.
 #[inline(never)]
 pub(crate) fn tell_dropped(news: &mut Vec<News>, answer: Admit) -> Result<(), NodeFault>
     ensures told { OnOk result (news.new.items ≡ news.old.items ++ Dropped answer ∷ []) }

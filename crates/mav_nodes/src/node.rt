@@ -4,12 +4,14 @@ ghost use Rattle.std.specs.Result.{result_err};
 ghost use Rattle.mav_frame.specs.declared.events.Event.{Event as StreamEvent};
 ghost use Rattle.mav_frame.specs.Packet.{Packet};
 ghost use Rattle.mav_sign.specs.Signing.{verified};
-ghost use Rattle.mav_nodes.specs.Steps.{Side, steps, steps_noted, serves, hears, hears_keeping, receives_keeping, IsNode};
+ghost use Rattle.mav_nodes.specs.Steps.{Side, steps, steps_noted, serves, hears, hears_keeping, receives_keeping};
+ghost use Rattle.mav_nodes.specs.Steps.{IsNode};
 ghost use Rattle.mav_nodes.specs.Services.{ServiceStep};
 ghost use Rattle.mav_nodes.specs.Links.{Link as LinkState, IsLink, sends};
 ghost use Rattle.mav_nodes.specs.Stores.{Holds, HoldsFrom, GivenUp, Serves, HasFailed, IsKept, AllKept};
 ghost use Rattle.mav_nodes.specs.Cores.{IsServed, rules_of};
-ghost use Rattle.mav_nodes.specs.Promises.{NodeDid, NodeDidKeeping, LinkDid, LinkKeeps, Fails, SpentKeeping, FailsKeeping, AtFrame, GivenUpIn};
+ghost use Rattle.mav_nodes.specs.Promises.{NodeDid, NodeDidKeeping, LinkDid, LinkKeeps, Fails, SpentKeeping};
+ghost use Rattle.mav_nodes.specs.Promises.{FailsKeeping, AtFrame, GivenUpIn};
 ghost use Rattle.mav_nodes.specs.Streams.{HasRead, GrowsBy, NodePart, PartFails};
 ghost use Rattle.mav_frame.specs.FinalParse.{final_parse};
 ghost use Rattle.mav_sign.specs.Endpoints.{frames_of};
@@ -28,8 +30,8 @@ use plan_items::PlanMsg;
 use plan_store::Keeper;
 use std::alloc::Global;
 
-// The core takes a plan message, the services hear what it did to the plans, and its reply is sent. Returns whether the
-// store has what changed.
+// The core takes a plan message, the services hear what it did to the plans, and its reply is sent. Returns whether
+// the store has what changed.
 fn take<K: Keeper, C: Core, V: Services<C>>(
     link: &mut Link,
     core: &mut C,
@@ -41,12 +43,20 @@ fn take<K: Keeper, C: Core, V: Services<C>>(
     news: &mut Vec<News>,
 ) -> Result<bool, NodeFault>
     ensures done { IfOk result (λ kept. (node : Side C V) → IsNode node link.old core.old services.old
-        → NodeDid (steps_noted V.noted clock node.link node.services (C.taken kept node.core from message.now)) link.new core.new services.new news.old.items news.new.items) }
+        → NodeDid (steps_noted V.noted clock node.link node.services (C.taken kept node.core from message.now))
+        link.new core.new services.new news.old.items news.new.items) }
     ensures unkept { IfOk result (λ kept. IsKept kept (HasFailed K.faults K.is_infallible keeper.old keeper.new)) }
-    ensures keeps { LinkKeeps (result_err result) (Holds (K.contents keeper.old) (C.stored core.old) link.old.low) (Holds (K.contents keeper.new) (C.stored core.new) link.new.low) (GivenUp (K.contents keeper.new) C.stored link.old.low (λ after. (after ≡ core.old) ⊎ ((kept : Bool) × (after ≡ (C.taken kept core.old from message.now).core)))) link.old link.new K.faults K.is_infallible keeper.old keeper.new }
-    ensures fault { IfErr result (λ fault. FailsKeeping fault (λ (node : Side C V). IsNode node link.old core.old services.old)
-        (λ (kept : Bool) (node : Side C V). steps_noted V.noted clock node.link node.services (C.taken kept node.core from message.now))
-        (λ kept. IsKept kept (HasFailed K.faults K.is_infallible keeper.old keeper.new)) (HasFailed K.faults K.is_infallible keeper.old keeper.new)) }
+    ensures keeps { LinkKeeps (result_err result) (Holds (K.contents keeper.old) (C.stored core.old) link.old.low)
+        (Holds (K.contents keeper.new) (C.stored core.new) link.new.low)
+        (GivenUp (K.contents keeper.new) C.stored link.old.low
+        (λ after. (after ≡ core.old) ⊎ ((kept : Bool) × (after ≡ (C.taken kept core.old from message.now).core))))
+        link.old link.new K.faults K.is_infallible keeper.old keeper.new }
+    ensures fault { IfErr result (λ fault. FailsKeeping fault
+        (λ (node : Side C V). IsNode node link.old core.old services.old)
+        (λ (kept : Bool) (node : Side C V). steps_noted V.noted clock node.link node.services
+        (C.taken kept node.core from message.now))
+        (λ kept. IsKept kept (HasFailed K.faults K.is_infallible keeper.old keeper.new))
+        (HasFailed K.faults K.is_infallible keeper.old keeper.new)) }
 {
     let kept = save_step(core, keeper, link.alloc(), link.low(), from, message)?;
     let step = core.take(kept, from, message);
@@ -65,11 +75,17 @@ pub(crate) fn say_served<K: Keeper, C: Core, V>(
     clock: u64,
     news: &mut Vec<News>,
 ) -> Result<(), NodeFault>
-    ensures done { OnOk result ((node : Side C V) → (step : ServiceStep V) → IsLink node.link link.old → core.now ≡ node.core → IsServed step _services.now served
-        → NodeDid (serves clock node.link node.core step) link.new core.now _services.now news.old.items news.new.items) }
-    ensures keeps { LinkKeeps (result_err result) (Holds (K.contents keeper.old) (C.stored core.now) link.old.low) (Holds (K.contents keeper.new) (C.stored core.now) link.new.low) (HoldsFrom (K.contents keeper.new) (C.stored core.now) link.new.low) link.old link.new K.faults K.is_infallible keeper.old keeper.new }
+    ensures done { OnOk result ((node : Side C V) → (step : ServiceStep V) → IsLink node.link link.old
+        → core.now ≡ node.core → IsServed step _services.now served
+        → NodeDid (serves clock node.link node.core step) link.new core.now _services.now news.old.items
+        news.new.items) }
+    ensures keeps { LinkKeeps (result_err result) (Holds (K.contents keeper.old) (C.stored core.now) link.old.low)
+        (Holds (K.contents keeper.new) (C.stored core.now) link.new.low)
+        (HoldsFrom (K.contents keeper.new) (C.stored core.now) link.new.low) link.old link.new K.faults K.is_infallible
+        keeper.old keeper.new }
     ensures fault { IfErr result (λ fault. (step : ServiceStep V) → IsServed step _services.now served
-        → Fails fault (λ (node : Side C V). IsLink node.link link.old) (λ (node : Side C V). serves clock node.link node.core step)
+        → Fails fault (λ (node : Side C V). IsLink node.link link.old)
+        (λ (node : Side C V). serves clock node.link node.core step)
         (HasFailed K.faults K.is_infallible keeper.old keeper.new)) }
 {
     link.send_all(&served.answers, clock, core, keeper, news)?;
@@ -88,9 +104,14 @@ fn serve<K: Keeper, C: Core, V: Services<C>>(
     news: &mut Vec<News>,
 ) -> Result<(), NodeFault>
     ensures done { OnOk result ((node : Side C V) → IsNode node link.old core.now services.old
-        → NodeDid (serves clock node.link node.core (V.served node.core node.services from message.now)) link.new core.now services.new news.old.items news.new.items) }
-    ensures keeps { LinkKeeps (result_err result) (Holds (K.contents keeper.old) (C.stored core.now) link.old.low) (Holds (K.contents keeper.new) (C.stored core.now) link.new.low) (HoldsFrom (K.contents keeper.new) (C.stored core.now) link.new.low) link.old link.new K.faults K.is_infallible keeper.old keeper.new }
-    ensures fault { IfErr result (λ fault. Fails fault (λ (node : Side C V). IsNode node link.old core.now services.old)
+        → NodeDid (serves clock node.link node.core (V.served node.core node.services from message.now)) link.new
+        core.now services.new news.old.items news.new.items) }
+    ensures keeps { LinkKeeps (result_err result) (Holds (K.contents keeper.old) (C.stored core.now) link.old.low)
+        (Holds (K.contents keeper.new) (C.stored core.now) link.new.low)
+        (HoldsFrom (K.contents keeper.new) (C.stored core.now) link.new.low) link.old link.new K.faults K.is_infallible
+        keeper.old keeper.new }
+    ensures fault { IfErr result (λ fault. Fails fault
+        (λ (node : Side C V). IsNode node link.old core.now services.old)
         (λ (node : Side C V). serves clock node.link node.core (V.served node.core node.services from message.now))
         (HasFailed K.faults K.is_infallible keeper.old keeper.new)) }
 {
@@ -111,12 +132,19 @@ fn hear<K: Keeper, C: Core, V: Services<C>>(
 ) -> Result<bool, NodeFault>
     requires { verifies ≡ verified link.old.endpoint.key frame.now frame.now.block }
     ensures done { IfOk result (λ kept. (node : Side C V) → IsNode node link.old core.old services.old
-        → NodeDid (hears (rules_of C.taken V.noted V.served kept) clock frame.now node) link.new core.new services.new news.old.items news.new.items) }
+        → NodeDid (hears (rules_of C.taken V.noted V.served kept) clock frame.now node) link.new core.new services.new
+        news.old.items news.new.items) }
     ensures unkept { IfOk result (λ kept. IsKept kept (HasFailed K.faults K.is_infallible keeper.old keeper.new)) }
-    ensures keeps { LinkKeeps (result_err result) (Holds (K.contents keeper.old) (C.stored core.old) link.old.low) (Holds (K.contents keeper.new) (C.stored core.new) link.new.low) ((node : Side C V) → IsNode node link.old core.old services.old → GivenUp (K.contents keeper.new) C.stored link.old.low (AtFrame C.taken node.link frame.now core.old)) link.old link.new K.faults K.is_infallible keeper.old keeper.new }
-    ensures fault { IfErr result (λ fault. FailsKeeping fault (λ (node : Side C V). IsNode node link.old core.old services.old)
+    ensures keeps { LinkKeeps (result_err result) (Holds (K.contents keeper.old) (C.stored core.old) link.old.low)
+        (Holds (K.contents keeper.new) (C.stored core.new) link.new.low)
+        ((node : Side C V) → IsNode node link.old core.old services.old
+        → GivenUp (K.contents keeper.new) C.stored link.old.low (AtFrame C.taken node.link frame.now core.old))
+        link.old link.new K.faults K.is_infallible keeper.old keeper.new }
+    ensures fault { IfErr result (λ fault. FailsKeeping fault
+        (λ (node : Side C V). IsNode node link.old core.old services.old)
         (λ (kept : Bool) (node : Side C V). hears (rules_of C.taken V.noted V.served kept) clock frame.now node)
-        (λ kept. IsKept kept (HasFailed K.faults K.is_infallible keeper.old keeper.new)) (HasFailed K.faults K.is_infallible keeper.old keeper.new)) }
+        (λ kept. IsKept kept (HasFailed K.faults K.is_infallible keeper.old keeper.new))
+        (HasFailed K.faults K.is_infallible keeper.old keeper.new)) }
 {
     match link.hear(frame, verifies, core, keeper)? {
         Tried::Plan(from, message) => {
@@ -134,8 +162,8 @@ fn hear<K: Keeper, C: Core, V: Services<C>>(
     }
 }
 
-/// Takes the bytes of a datagram as a whole input by itself: each of its frames in order, and each reply is sent before the
-/// next frame is tried. What `known` says to verify takes no digest.
+/// Takes the bytes of a datagram as a whole input by itself: each of its frames in order, and each reply is sent
+/// before the next frame is tried. What `known` says to verify takes no digest.
 pub(crate) fn receive<K: Keeper, C: Core, V: Services<C>>(
     alloc: Global,
     link: &mut Link,
@@ -147,11 +175,23 @@ pub(crate) fn receive<K: Keeper, C: Core, V: Services<C>>(
     clock: u64,
 ) -> Result<Vec<News>, NodeFault>
     ensures done { IfOk result (λ news. (node : Side C V) → IsNode node link.old core.old services.old
-        → NodeDidKeeping (λ (keeps : List Bool). receives_keeping (rules_of C.taken V.noted V.served) clock keeps datagram.now node) (AllKept (HasFailed K.faults K.is_infallible keeper.old keeper.new)) link.new core.new services.new news.items) }
-    ensures keeps { LinkKeeps (result_err result) (Holds (K.contents keeper.old) (C.stored core.old) link.old.low) (Holds (K.contents keeper.new) (C.stored core.new) link.new.low) ((node : Side C V) → IsNode node link.old core.old services.old → GivenUpIn C.taken C.stored (rules_of C.taken V.noted V.served) clock (AllKept (HasFailed K.faults K.is_infallible keeper.old keeper.new)) (K.contents keeper.new) (frames_of (final_parse node.link.extras false datagram.now)) node) link.old link.new K.faults K.is_infallible keeper.old keeper.new }
-    ensures fault { IfErr result (λ fault. FailsKeeping fault (λ (node : Side C V). IsNode node link.old core.old services.old)
-        (λ (keeps : List Bool) (node : Side C V). receives_keeping (rules_of C.taken V.noted V.served) clock keeps datagram.now node)
-        (AllKept (HasFailed K.faults K.is_infallible keeper.old keeper.new)) (HasFailed K.faults K.is_infallible keeper.old keeper.new)) }
+        → NodeDidKeeping (λ (keeps : List Bool). receives_keeping
+        (rules_of C.taken V.noted V.served) clock keeps datagram.now node)
+        (AllKept (HasFailed K.faults K.is_infallible keeper.old keeper.new)) link.new core.new services.new
+        news.items) }
+    ensures keeps { LinkKeeps (result_err result) (Holds (K.contents keeper.old) (C.stored core.old) link.old.low)
+        (Holds (K.contents keeper.new) (C.stored core.new) link.new.low)
+        ((node : Side C V) → IsNode node link.old core.old services.old
+        → GivenUpIn C.taken C.stored (rules_of C.taken V.noted V.served) clock
+        (AllKept (HasFailed K.faults K.is_infallible keeper.old keeper.new)) (K.contents keeper.new)
+        (frames_of (final_parse node.link.extras false datagram.now)) node) link.old link.new K.faults K.is_infallible
+        keeper.old keeper.new }
+    ensures fault { IfErr result (λ fault. FailsKeeping fault
+        (λ (node : Side C V). IsNode node link.old core.old services.old)
+        (λ (keeps : List Bool) (node : Side C V). receives_keeping
+        (rules_of C.taken V.noted V.served) clock keeps datagram.now node)
+        (AllKept (HasFailed K.faults K.is_infallible keeper.old keeper.new))
+        (HasFailed K.faults K.is_infallible keeper.old keeper.new)) }
 {
     let mut news = Vec::new(alloc);
     let mut place = 0;
@@ -171,8 +211,8 @@ pub(crate) fn receive<K: Keeper, C: Core, V: Services<C>>(
     Ok(news)
 }
 
-/// Takes a piece of a stream: each frame by which the parse of the stream grows with it, in order, and each reply is sent
-/// before the next frame is tried. Returns how many bytes it took, which is all of them.
+/// Takes a piece of a stream: each frame by which the parse of the stream grows with it, in order, and each reply is
+/// sent before the next frame is tried. Returns how many bytes it took, which is all of them.
 pub(crate) fn part<K: Keeper, C: Core, V: Services<C>>(
     alloc: Global,
     link: &mut Link,
@@ -183,15 +223,26 @@ pub(crate) fn part<K: Keeper, C: Core, V: Services<C>>(
     clock: u64,
 ) -> Result<(usize, Vec<News>), NodeFault>
     ensures count { IfOk result (λ part. part.0 ≡ length piece.now) }
-    ensures done { IfOk result (λ part. (node : Side C V) (taken : List ℕ) (given : List StreamEvent) → IsNode node link.old core.old services.old → HasRead taken given link.old
-        → NodePart (rules_of C.taken V.noted V.served) clock node (taken ++ piece.now) given (AllKept (HasFailed K.faults K.is_infallible keeper.old keeper.new)) link.new core.new services.new part.1.items) }
-    ensures stored { OnOk result (Holds (K.contents keeper.old) (C.stored core.old) link.old.low → Holds (K.contents keeper.new) (C.stored core.new) link.new.low) }
+    ensures done { IfOk result (λ part. (node : Side C V) (taken : List ℕ) (given : List StreamEvent)
+        → IsNode node link.old core.old services.old → HasRead taken given link.old
+        → NodePart (rules_of C.taken V.noted V.served) clock node (taken ++ piece.now) given
+        (AllKept (HasFailed K.faults K.is_infallible keeper.old keeper.new)) link.new core.new services.new
+        part.1.items) }
+    ensures stored { OnOk result (Holds (K.contents keeper.old) (C.stored core.old) link.old.low
+        → Holds (K.contents keeper.new) (C.stored core.new) link.new.low) }
     ensures given { IfErr result (λ fault. Holds (K.contents keeper.old) (C.stored core.old) link.old.low
-        → (node : Side C V) (taken : List ℕ) (given events : List StreamEvent) → IsNode node link.old core.old services.old → HasRead taken given link.old → GrowsBy link.old.endpoint.extras (taken ++ piece.now) given events
-        → GivenUpIn C.taken C.stored (rules_of C.taken V.noted V.served) clock (AllKept (HasFailed K.faults K.is_infallible keeper.old keeper.new)) (K.contents keeper.new) (frames_of events) node) }
+        → (node : Side C V) (taken : List ℕ) (given events : List StreamEvent)
+        → IsNode node link.old core.old services.old → HasRead taken given link.old
+        → GrowsBy link.old.endpoint.extras (taken ++ piece.now) given events
+        → GivenUpIn C.taken C.stored (rules_of C.taken V.noted V.served) clock
+        (AllKept (HasFailed K.faults K.is_infallible keeper.old keeper.new)) (K.contents keeper.new)
+        (frames_of events) node) }
     ensures serves { Serves K.faults K.is_infallible keeper.old keeper.new }
-    ensures fault { IfErr result (λ fault. PartFails fault (λ (node : Side C V). IsNode node link.old core.old services.old) link.old piece.now
-        (λ (packets : List Packet) (node : Side C V). SpentKeeping (AllKept (HasFailed K.faults K.is_infallible keeper.old keeper.new)) (λ keeps. hears_keeping (rules_of C.taken V.noted V.served) clock keeps packets node))
+    ensures fault { IfErr result (λ fault. PartFails fault
+        (λ (node : Side C V). IsNode node link.old core.old services.old) link.old piece.now
+        (λ (packets : List Packet) (node : Side C V). SpentKeeping
+        (AllKept (HasFailed K.faults K.is_infallible keeper.old keeper.new))
+        (λ keeps. hears_keeping (rules_of C.taken V.noted V.served) clock keeps packets node))
         (HasFailed K.faults K.is_infallible keeper.old keeper.new)) }
 {
     let mut news = Vec::new(alloc);
@@ -221,9 +272,15 @@ pub(crate) fn tick<K: Keeper, C: Core, V>(
     clock: u64,
 ) -> Result<Vec<News>, NodeFault>
     ensures done { IfOk result (λ news. (node : Side C V) → IsNode node link.old core.old _services.now
-        → NodeDid (steps clock node.link node.services (C.waited node.core)) link.new core.new _services.now [] news.items) }
-    ensures keeps { LinkKeeps (result_err result) (Holds (K.contents keeper.old) (C.stored core.old) link.old.low) (Holds (K.contents keeper.new) (C.stored core.new) link.new.low) (HoldsFrom (K.contents keeper.new) (C.stored core.old) link.old.low) link.old link.new K.faults K.is_infallible keeper.old keeper.new }
-    ensures fault { IfErr result (λ fault. Fails fault (λ (node : Side C V). IsNode node link.old core.old _services.now) (λ (node : Side C V). steps clock node.link node.services (C.waited node.core))
+        → NodeDid (steps clock node.link node.services (C.waited node.core)) link.new core.new _services.now []
+        news.items) }
+    ensures keeps { LinkKeeps (result_err result) (Holds (K.contents keeper.old) (C.stored core.old) link.old.low)
+        (Holds (K.contents keeper.new) (C.stored core.new) link.new.low)
+        (HoldsFrom (K.contents keeper.new) (C.stored core.old) link.old.low) link.old link.new K.faults K.is_infallible
+        keeper.old keeper.new }
+    ensures fault { IfErr result (λ fault. Fails fault
+        (λ (node : Side C V). IsNode node link.old core.old _services.now)
+        (λ (node : Side C V). steps clock node.link node.services (C.waited node.core))
         (HasFailed K.faults K.is_infallible keeper.old keeper.new)) }
 {
     let mut news = Vec::new(alloc);
@@ -243,8 +300,12 @@ pub(crate) fn send<K: Keeper, C: Core>(
 ) -> Result<Vec<News>, NodeFault>
     ensures sent { IfOk result (λ news. (end : LinkState) → IsLink end link.old
         → LinkDid (sends clock message.now end) link.new [] news.items) }
-    ensures keeps { LinkKeeps (result_err result) (Holds (K.contents keeper.old) (C.stored core.now) link.old.low) (Holds (K.contents keeper.new) (C.stored core.now) link.new.low) (HoldsFrom (K.contents keeper.new) (C.stored core.now) link.new.low) link.old link.new K.faults K.is_infallible keeper.old keeper.new }
-    ensures fault { IfErr result (λ fault. Fails fault (λ (end : LinkState). IsLink end link.old) (λ (end : LinkState). sends clock message.now end)
+    ensures keeps { LinkKeeps (result_err result) (Holds (K.contents keeper.old) (C.stored core.now) link.old.low)
+        (Holds (K.contents keeper.new) (C.stored core.now) link.new.low)
+        (HoldsFrom (K.contents keeper.new) (C.stored core.now) link.new.low) link.old link.new K.faults K.is_infallible
+        keeper.old keeper.new }
+    ensures fault { IfErr result (λ fault. Fails fault (λ (end : LinkState). IsLink end link.old)
+        (λ (end : LinkState). sends clock message.now end)
         (HasFailed K.faults K.is_infallible keeper.old keeper.new)) }
 {
     let mut news = Vec::new(alloc);

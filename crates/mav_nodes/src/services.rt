@@ -39,7 +39,8 @@ pub(crate) trait Services<C> {
 
     /// Hears what a step of the plan core did to the plans, before the step's reply is sent.
     fn note(&mut self, plans: &PlanNews)
-        ensures { (events : List NodeEvent) → said_of_plans plans.now ≡ map shown events → self.new ≡ noted self.old events };
+        ensures { (events : List NodeEvent) → said_of_plans plans.now ≡ map shown events
+            → self.new ≡ noted self.old events };
 
     fn serve(
         &mut self,

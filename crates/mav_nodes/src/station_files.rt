@@ -2,7 +2,8 @@
 ghost use Rattle.std.specs.Prelude.{◌≡◌, ◌++◌, ◌∷◌, [], None, Some, map, OnOk, OnErr, IfOk, IfErr};
 ghost use Rattle.mav_ftp.specs.Client.{order_fault};
 ghost use Rattle.mav_nodes.specs.News.{events_of, shown};
-ghost use Rattle.mav_nodes.specs.FileServices.{new_station_files, file_order, begins, transfer_heard, transfer_waits, sent_of_step, end_of_step, sent_of_tick, end_of_tick};
+ghost use Rattle.mav_nodes.specs.FileServices.{new_station_files, file_order, begins, transfer_heard, transfer_waits};
+ghost use Rattle.mav_nodes.specs.FileServices.{sent_of_step, end_of_step, sent_of_tick, end_of_tick};
 ghost use Rattle.mav_nodes.specs.Services.{file_events};
 
 use crate::drone_files::{file_message, target_of};
@@ -46,7 +47,8 @@ fn tell_step(
     last: &mut Vec<News>,
 ) -> Result<(), NoMemory>
     ensures answers { OnOk result (answers.new.items ≡ answers.old.items ++ sent_of_step drone step) }
-    ensures last { OnOk result (events_of last.new.items ≡ events_of last.old.items ++ map shown (file_events (end_of_step step))) }
+    ensures last { OnOk result (events_of last.new.items ≡ events_of last.old.items
+        ++ map shown (file_events (end_of_step step))) }
 {
     match step {
         FtpStep::Quiet => Ok(()),
@@ -64,7 +66,8 @@ fn tell_tick(
     last: &mut Vec<News>,
 ) -> Result<(), NoMemory>
     ensures answers { OnOk result (answers.new.items ≡ answers.old.items ++ sent_of_tick drone tick) }
-    ensures last { OnOk result (events_of last.new.items ≡ events_of last.old.items ++ map shown (file_events (end_of_tick tick))) }
+    ensures last { OnOk result (events_of last.new.items ≡ events_of last.old.items
+        ++ map shown (file_events (end_of_tick tick))) }
 {
     match tick {
         FtpTick::Quiet => Ok(()),
@@ -111,8 +114,10 @@ impl StationFiles {
         last: &mut Vec<News>,
     ) -> Result<(), NoMemory>
         ensures files { OnOk result (self.new ≡ (transfer_heard self.old from message.now).files) }
-        ensures answers { OnOk result (answers.new.items ≡ answers.old.items ++ (transfer_heard self.old from message.now).answers) }
-        ensures last { OnOk result (events_of last.new.items ≡ events_of last.old.items ++ map shown (file_events (transfer_heard self.old from message.now).end)) }
+        ensures answers { OnOk result (answers.new.items ≡ answers.old.items
+            ++ (transfer_heard self.old from message.now).answers) }
+        ensures last { OnOk result (events_of last.new.items ≡ events_of last.old.items
+            ++ map shown (file_events (transfer_heard self.old from message.now).end)) }
     {
         let Message::FileTransferProtocol(reply) = message else {
             return Ok(());
@@ -132,7 +137,8 @@ impl StationFiles {
     ) -> Result<(), NoMemory>
         ensures files { OnOk result (self.new ≡ (transfer_waits self.old).files) }
         ensures answers { OnOk result (answers.new.items ≡ answers.old.items ++ (transfer_waits self.old).answers) }
-        ensures last { OnOk result (events_of last.new.items ≡ events_of last.old.items ++ map shown (file_events (transfer_waits self.old).end)) }
+        ensures last { OnOk result (events_of last.new.items ≡ events_of last.old.items
+            ++ map shown (file_events (transfer_waits self.old).end)) }
     {
         let tick = self.client.tick();
         tell_tick(self.drone, tick, answers, last)

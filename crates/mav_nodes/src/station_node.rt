@@ -6,7 +6,9 @@ ghost use Rattle.mav_nodes.specs.Services.{ServiceStep, StationServices as Stati
 ghost use Rattle.mav_nodes.specs.Steps.{steps, serves};
 ghost use Rattle.mav_nodes.specs.Cores.{IsStep, IsServed};
 ghost use Rattle.param_proto.specs.Client.{known_values};
-ghost use Rattle.mav_nodes.specs.Nodes.{StationSide, IsStation, IsAccepted, new_station, station_receives, station_ticks, station_beats, station_does, station_obeys, order_step, order_refusal, is_service};
+ghost use Rattle.mav_nodes.specs.Nodes.{StationSide, IsStation, IsAccepted, new_station, station_receives};
+ghost use Rattle.mav_nodes.specs.Nodes.{station_ticks, station_beats, station_does, station_obeys, order_step};
+ghost use Rattle.mav_nodes.specs.Nodes.{order_refusal, is_service};
 ghost use Rattle.plan_upload.specs.Station.{station_tick};
 ghost use Rattle.mav_nodes.specs.Streams.{HasRead, StationPart, StationPartFails};
 ghost use Rattle.mav_frame.specs.declared.events.Event.{Event};
@@ -99,7 +101,8 @@ impl Core for Station {
 
 // The station has done a step with this reply: an outcome that it has reached is returned.
 fn step_of(station: &mut Station, answer: Option<PlanMsg>) -> Step
-    ensures { (step : StationStep) → station.old ≡ step.station → answer ≡ step.answer → IsStep (station_does step) station.new result }
+    ensures { (step : StationStep) → station.old ≡ step.station → answer ≡ step.answer
+        → IsStep (station_does step) station.new result }
 {
     Step {
         plans: PlanNews::Same,
@@ -188,13 +191,14 @@ impl StationNode {
     /// Drops it where nothing else is owned.
     pub fn discard(self) {}
 
-    /// Takes a datagram as a whole input by itself: each of its frames in order, and each reply is sent before the next
-    /// frame is tried.
+    /// Takes a datagram as a whole input by itself: each of its frames in order, and each reply is sent before the
+    /// next frame is tried.
     pub fn receive(&mut self, datagram: &Datagram<'_>, clock: u64) -> Result<Vec<News>, NodeFault>
         ensures done { IfOk result (λ news. (node : StationSide) → IsStation node self.old
             → StationDid (station_receives clock datagram.now node) self.new [] news.items) }
         ensures reader { reader_of self.new.link.endpoint ≡ reader_of self.old.link.endpoint }
-        ensures fault { IfErr result (λ fault. Fails fault (λ (node : StationSide). IsStation node self.old) (λ (node : StationSide). station_receives clock datagram.now node) ⊥) }
+        ensures fault { IfErr result (λ fault. Fails fault (λ (node : StationSide). IsStation node self.old)
+            (λ (node : StationSide). station_receives clock datagram.now node) ⊥) }
     {
         node::receive(
             self.alloc,
@@ -208,12 +212,13 @@ impl StationNode {
         )
     }
 
-    /// Takes a piece of a stream, which may cut frames anywhere: each frame by which the parse of the stream grows with it,
-    /// in order, and each reply is sent before the next frame is tried. Returns how many bytes it took, which is all of
-    /// them.
+    /// Takes a piece of a stream, which may cut frames anywhere: each frame by which the parse of the stream grows
+    /// with it, in order, and each reply is sent before the next frame is tried. Returns how many bytes it took, which
+    /// is all of them.
     pub fn part(&mut self, piece: &[u8], clock: u64) -> Result<(usize, Vec<News>), NodeFault>
         ensures count { IfOk result (λ part. part.0 ≡ length piece.now) }
-        ensures done { IfOk result (λ part. (node : StationSide) (taken : List ℕ) (given : List Event) → IsStation node self.old → HasRead taken given self.old.link
+        ensures done { IfOk result (λ part. (node : StationSide) (taken : List ℕ) (given : List Event)
+            → IsStation node self.old → HasRead taken given self.old.link
             → StationPart clock node (taken ++ piece.now) given self.new part.1.items) }
         ensures fault { IfErr result (λ fault. StationPartFails fault clock self.old piece.now) }
     {
@@ -273,11 +278,14 @@ impl StationNode {
 
     // Its services have done a step: what they reply is sent, and what ended with it is reported.
     fn say(&mut self, served: Served, clock: u64, news: &mut Vec<News>) -> Result<(), NodeFault>
-        ensures done { OnOk result ((link : LinkState) (step : ServiceStep StationServicesState) → IsLink link self.old.link → IsServed step self.old.services served
+        ensures done { OnOk result ((link : LinkState) (step : ServiceStep StationServicesState)
+            → IsLink link self.old.link → IsServed step self.old.services served
             → StationDid (serves clock link self.old.station step) self.new news.old.items news.new.items) }
         ensures reader { reader_of self.new.link.endpoint ≡ reader_of self.old.link.endpoint }
-        ensures fault { IfErr result (λ fault. (step : ServiceStep StationServicesState) → IsServed step self.old.services served
-            → Fails fault (λ (link : LinkState). IsLink link self.old.link) (λ (link : LinkState). serves clock link self.old.station step) ⊥) }
+        ensures fault { IfErr result (λ fault. (step : ServiceStep StationServicesState)
+            → IsServed step self.old.services served
+            → Fails fault (λ (link : LinkState). IsLink link self.old.link)
+            (λ (link : LinkState). serves clock link self.old.station step) ⊥) }
     {
         node::say_served(
             &mut self.link,
@@ -290,13 +298,14 @@ impl StationNode {
         )
     }
 
-    /// One tick: what an operation sends again, or how it continues; and then the same of the open command, and of what is
-    /// asked of parameters and of files.
+    /// One tick: what an operation sends again, or how it continues; and then the same of the open command, and of
+    /// what is asked of parameters and of files.
     pub fn tick(&mut self, clock: u64) -> Result<Vec<News>, NodeFault>
         ensures done { IfOk result (λ news. (node : StationSide) → IsStation node self.old
             → StationDid (station_ticks clock node) self.new [] news.items) }
         ensures reader { reader_of self.new.link.endpoint ≡ reader_of self.old.link.endpoint }
-        ensures fault { IfErr result (λ fault. Fails fault (λ (node : StationSide). IsStation node self.old) (λ (node : StationSide). station_ticks clock node) ⊥) }
+        ensures fault { IfErr result (λ fault. Fails fault (λ (node : StationSide). IsStation node self.old)
+            (λ (node : StationSide). station_ticks clock node) ⊥) }
     {
         let mut news = self.tick_core(clock)?;
         let served = self.services.wait(self.alloc)?;
@@ -307,7 +316,8 @@ impl StationNode {
     // One tick of its plan core.
     fn tick_core(&mut self, clock: u64) -> Result<Vec<News>, NodeFault>
         ensures done { IfOk result (λ news. (node : StationSide) → IsStation node self.old
-            → StationDid (steps clock node.link node.services (station_does (station_tick node.core))) self.new [] news.items) }
+            → StationDid (steps clock node.link node.services (station_does (station_tick node.core))) self.new []
+            news.items) }
         ensures reader { reader_of self.new.link.endpoint ≡ reader_of self.old.link.endpoint }
         ensures fault { IfErr result (λ fault. Fails fault (λ (node : StationSide). IsStation node self.old)
             (λ (node : StationSide). steps clock node.link node.services (station_does (station_tick node.core))) ⊥) }
@@ -334,7 +344,8 @@ impl StationNode {
         ensures done { IfOk result (λ news. (node : StationSide) → IsStation node self.old
             → StationDid (station_beats clock node) self.new [] news.items) }
         ensures reader { reader_of self.new.link.endpoint ≡ reader_of self.old.link.endpoint }
-        ensures fault { IfErr result (λ fault. Fails fault (λ (node : StationSide). IsStation node self.old) (λ (node : StationSide). station_beats clock node) ⊥) }
+        ensures fault { IfErr result (λ fault. Fails fault (λ (node : StationSide). IsStation node self.old)
+            (λ (node : StationSide). station_beats clock node) ⊥) }
     {
         let message = station_heartbeat();
         node::send(

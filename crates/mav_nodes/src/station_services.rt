@@ -3,7 +3,8 @@ ghost use Rattle.std.specs.Prelude.{◌≡◌, ◌++◌, ◌∷◌, [], OnOk, If
 ghost use Rattle.mav_nodes.specs.News.{events_of};
 ghost use Rattle.command_proto.specs.Commander.{commander_step};
 ghost use Rattle.mav_nodes.specs.Services.{new_station_services, station_waits, station_asked};
-ghost use Rattle.mav_nodes.specs.Returned.{shown_of_result, command_again, shown_of_command, shown_of_end, params_again, shown_of_params};
+ghost use Rattle.mav_nodes.specs.Returned.{shown_of_result, command_again, shown_of_command, shown_of_end};
+ghost use Rattle.mav_nodes.specs.Returned.{params_again, shown_of_params};
 ghost use Rattle.mav_nodes.specs.Cores.{IsServed};
 ghost use Rattle.mav_nodes.specs.Nodes.{service_step};
 ghost use Rattle.param_proto.specs.Client.{known_values, client_step};
@@ -133,7 +134,8 @@ impl StationServices {
 
     // What the commander and the client of parameters make of a message.
     fn hear(&mut self, alloc: Global, from: Stream, message: &Message) -> Result<Served, NoMemory>
-        ensures { IfOk result (IsServed (station_asked self.old (commander_step self.old.commander from message.now) (client_step self.old.client from message.now)) self.new) }
+        ensures { IfOk result (IsServed (station_asked self.old (commander_step self.old.commander from message.now)
+            (client_step self.old.client from message.now)) self.new) }
     {
         let mut last = Vec::new(alloc);
         tell_result(self.commander.step(from, message), &mut last)?;

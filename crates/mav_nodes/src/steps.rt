@@ -31,7 +31,8 @@ pub(crate) struct Step {
 
 /// The core of a node. It has no link, no clock and no store, and allocates only what is to be stored.
 pub(crate) trait Core {
-    ghost use Rattle.std.specs.Prelude.{◌≡◌, ◌≢◌, ◌≤◌, ◌<◌, ◌^◌, Bool, ℕ, List, None, true, false, vec_len, IfOk, IfSome};
+    ghost use Rattle.std.specs.Prelude.{◌≡◌, ◌≢◌, ◌≤◌, ◌<◌, ◌^◌, Bool, ℕ, List, None, true, false, vec_len, IfOk};
+    ghost use Rattle.std.specs.Prelude.{IfSome};
     ghost use Rattle.mav_names.specs.declared.names.Stream.{Stream};
     ghost use Rattle.plan_items.specs.declared.messages.PlanMsg.{PlanMsg};
     ghost use Rattle.mav_nodes.specs.Steps.{CoreStep};
@@ -63,11 +64,15 @@ pub(crate) trait Core {
         message: &PlanMsg,
     ) -> Result<Option<Vec<u8>>, NoMemory>
         requires { low < 2 ^ 48 }
-        ensures bytes { IfOk result (λ bytes. IfSome bytes (λ b. stored (taken true self.now from message.now).core low b.items)) }
+        ensures bytes { IfOk result (λ bytes. IfSome bytes
+            (λ b. stored (taken true self.now from message.now).core low b.items)) }
         ensures short { IfOk result (λ bytes. IfSome bytes (λ b. vec_len b ≤ 65536)) }
-        ensures changed { IfOk result (λ bytes. bytes ≢ None → (kept : Bool) → (taken kept self.now from message.now).answer ≢ None) }
-        ensures same { IfOk result (λ bytes. bytes ≡ None → (low : ℕ) → (b : List ℕ) → stored self.now low b → stored (taken true self.now from message.now).core low b) }
-        ensures unkept { (low : ℕ) → (b : List ℕ) → stored self.now low b → stored (taken false self.now from message.now).core low b };
+        ensures changed { IfOk result (λ bytes. bytes ≢ None → (kept : Bool)
+            → (taken kept self.now from message.now).answer ≢ None) }
+        ensures same { IfOk result (λ bytes. bytes ≡ None → (low : ℕ) → (b : List ℕ) → stored self.now low b
+            → stored (taken true self.now from message.now).core low b) }
+        ensures unkept { (low : ℕ) → (b : List ℕ) → stored self.now low b
+            → stored (taken false self.now from message.now).core low b };
 
     /// Does its step; `kept` says whether the store has what it changes.
     fn take(&mut self, kept: bool, from: Stream, message: &PlanMsg) -> Step
@@ -96,7 +101,8 @@ pub(crate) fn tell_plans(news: &mut Vec<News>, plans: PlanNews) -> Result<(), No
     }
 }
 
-// The compiler zeroes a function's locals whether they are used or not, so each rare piece of news has a function of its own.
+// The compiler zeroes a function's locals whether they are used or not, so each rare piece of news has a function of
+// its own.
 #[inline(never)]
 fn tell_installed(
     news: &mut Vec<News>,
@@ -104,7 +110,8 @@ fn tell_installed(
     count: u16,
     by: Stream,
 ) -> Result<(), NodeFault>
-    ensures told { OnOk result (events_of news.new.items ≡ events_of news.old.items ++ Shows_installed kind count by ∷ []) }
+    ensures told { OnOk result (events_of news.new.items ≡ events_of news.old.items ++ Shows_installed kind count by
+        ∷ []) }
     ensures fault { IfErr result (λ fault. fault ≡ NodeFault.NoMemory) }
 {
     tell(news, News::Installed { kind, count, by })
@@ -120,7 +127,8 @@ fn tell_emptied(news: &mut Vec<News>, kind: PlanKind) -> Result<(), NodeFault>
 
 #[inline(never)]
 fn tell_ended(news: &mut Vec<News>, outcome: Outcome) -> Result<(), NodeFault>
-    ensures told { OnOk result (events_of news.new.items ≡ events_of news.old.items ++ Shows_ended (told_of outcome) ∷ []) }
+    ensures told { OnOk result (events_of news.new.items ≡ events_of news.old.items ++ Shows_ended (told_of outcome)
+        ∷ []) }
     ensures fault { IfErr result (λ fault. fault ≡ NodeFault.NoMemory) }
 {
     tell(news, News::Outcome(outcome))

@@ -1,7 +1,9 @@
 // What a node saves in its store.
-ghost use Rattle.std.specs.Prelude.{◌≡◌, ◌<◌, ◌≤◌, ◌⊎◌, ◌^◌, ℕ, true, None, Some, IfOk, IfErr, OnOk, IfSome, unwrap_or};
+ghost use Rattle.std.specs.Prelude.{◌≡◌, ◌<◌, ◌≤◌, ◌⊎◌, ◌^◌, ℕ, true, None, Some, IfOk, IfErr, OnOk, IfSome};
+ghost use Rattle.std.specs.Prelude.{unwrap_or};
 ghost use Rattle.std.specs.declared.option.Option.{Option};
-ghost use Rattle.mav_nodes.specs.Stores.{Holds, HoldsNearly, HoldsFrom, GivenUp, AreStored, Serves, HasFailed, HasFailedAt, IsKept};
+ghost use Rattle.mav_nodes.specs.Stores.{Holds, HoldsNearly, HoldsFrom, GivenUp, AreStored, Serves, HasFailed};
+ghost use Rattle.mav_nodes.specs.Stores.{HasFailedAt, HasFailedTwice, IsKept};
 
 use crate::steps::Core;
 use crate::{NoMemory, NodeFault};
@@ -34,7 +36,11 @@ pub(crate) fn save_bound<K: Keeper, C: Core>(
 ) -> Result<(), NodeFault>
     requires { bound < 2 ^ 48 }
     ensures stored { OnOk result (Holds (K.contents keeper.new) (C.stored core.now) (Some bound)) }
-    ensures given { IfErr result (λ fault. (low : Option ℕ) → unwrap_or low 0 ≤ bound → HoldsNearly (K.contents keeper.old) (C.stored core.now) low → HoldsFrom (K.contents keeper.new) (C.stored core.now) low) }
+    ensures given { IfErr result (λ fault. (low : Option ℕ) → unwrap_or low 0 ≤ bound
+        → HoldsNearly (K.contents keeper.old) (C.stored core.now) low
+        → HoldsFrom (K.contents keeper.new) (C.stored core.now) low) }
+    ensures exact { IfErr result (λ fault. (K.contents keeper.new ≡ K.contents keeper.old)
+        ⊎ IfSome (K.contents keeper.new) (C.stored core.now bound)) }
     ensures serves { Serves K.faults K.is_infallible keeper.old keeper.new }
     ensures fault { IfErr result (λ fault. HasFailedAt fault K.faults K.is_infallible keeper.old keeper.new) }
 {
@@ -57,14 +63,19 @@ pub(crate) fn save_step<K: Keeper, C: Core>(
     message: &PlanMsg,
 ) -> Result<bool, NodeFault>
     requires { IfSome low (λ low. low < 2 ^ 48) }
-    ensures nearly { IfOk result (λ kept. Holds (K.contents keeper.old) (C.stored core.now) low → HoldsNearly (K.contents keeper.new) (C.stored (C.taken kept core.now from message.now).core) low) }
+    ensures nearly { IfOk result (λ kept. Holds (K.contents keeper.old) (C.stored core.now) low
+        → HoldsNearly (K.contents keeper.new) (C.stored (C.taken kept core.now from message.now).core) low) }
     ensures silent { IfOk result (λ kept. (C.taken kept core.now from message.now).answer ≡ None
-        → Holds (K.contents keeper.old) (C.stored core.now) low → Holds (K.contents keeper.new) (C.stored (C.taken kept core.now from message.now).core) low) }
+        → Holds (K.contents keeper.old) (C.stored core.now) low
+        → Holds (K.contents keeper.new) (C.stored (C.taken kept core.now from message.now).core) low) }
     ensures given { IfErr result (λ fault. Holds (K.contents keeper.old) (C.stored core.now) low
-        → GivenUp (K.contents keeper.new) C.stored low (λ after. (after ≡ core.now) ⊎ (after ≡ (C.taken true core.now from message.now).core))) }
+        → GivenUp (K.contents keeper.new) C.stored low
+        (λ after. (after ≡ core.now) ⊎ (after ≡ (C.taken true core.now from message.now).core))) }
     ensures unkept { IfOk result (λ kept. IsKept kept (HasFailed K.faults K.is_infallible keeper.old keeper.new)) }
     ensures serves { Serves K.faults K.is_infallible keeper.old keeper.new }
     ensures fault { IfErr result (λ fault. HasFailedAt fault K.faults K.is_infallible keeper.old keeper.new) }
+    ensures twice { IfErr result (λ fault. HasFailedTwice fault (K.contents keeper.old) (C.stored core.now) low
+        (K.faults keeper.old) (K.faults keeper.new)) }
 {
     let Some(new) = core.image_after(alloc, low.unwrap_or(0), from, message)? else {
         return Ok(true);

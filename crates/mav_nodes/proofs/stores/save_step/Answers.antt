@@ -1,13 +1,13 @@
 use Rattle.std.proofs.Common.{◌≡◌, ◌⊎◌, ◌<◌, ℕ, List, [], Option, Some, None, Result, Ok, Err, true, inl, inr, false, refl, sym, subst, arith, ◌^◌}
 use Rattle.std.specs.Prelude.{IfSome, unwrap_or}
 use Rattle.std.proofs.lemmas.Result.{err_from_is_err_and}
-use Rattle.mav_ports.specs.Counts.{Rose}
+use Rattle.mav_ports.specs.Counts.{Rose, next_count}
 use Rattle.plan_store.specs.Keeps.{replace_known, KeptOrReplaced}
 use Rattle.plan_store.specs.declared.keepers.KeepFault.{KeepFault}
 use Rattle.plan_store.specs.declared.keepers.KeepFault.TheVariants.{Store as KeptStore, NoMemory as KeptNoMemory}
 use Rattle.plan_store.specs.declared.saves.Stored.{Stored}
 use Rattle.plan_store.specs.declared.saves.Stored.TheVariants.{New, Old}
-use Rattle.mav_nodes.specs.Stores.{Holds, HoldsNearly, GivenUp, AreStored, HasFailedAt, fault_of}
+use Rattle.mav_nodes.specs.Stores.{Holds, HoldsNearly, GivenUp, AreStored, HasFailedAt, HasFailedTwice, fault_of}
 use Rattle.mav_nodes.proofs.StoreCalls.{serves_same, same_held, replaced, nearly_from}
 use Rattle.mav_nodes.proofs.stores.save_step.Goals as goal
 
@@ -59,18 +59,22 @@ fails_so : {Store : Type 0} (faults : Store → ℕ) (sure : Store → Type 0) (
 fails_so faults sure old now result KeptStore e rose safe = record { count = rose e; fallible = λ s. not_store result e (safe s).1 }
 fails_so faults sure old now result KeptNoMemory e rose safe = tt
 
+failed_twice : (contents : Option (List ℕ)) (stored : ℕ → List ℕ → Type 0) (low : Option ℕ) (old : List ℕ) (before now : ℕ) (result : Result Stored KeepFault) (fault : KeepFault) → result ≡ Err fault → AreStored stored low old → (result ≡ Err KeptStore → IfSome contents (λ kept. kept ≡ old → Rose (next_count before) now)) → HasFailedTwice (fault_of fault) contents stored low before now
+failed_twice contents stored low old before now result KeptStore e is both = (old, is, both e)
+failed_twice contents stored low old before now result KeptNoMemory e is both = tt
+
 pub image_after-requires : goal.image_after-requires
 image_after-requires g c = rw c.unwrap_or.ensures (bound_fits c.args.low c.requires)
 
 pub returns-in_err-new : goal.returns-in_err-new
 returns-in_err-new g c =
     let p = err_from_is_err_and c.from_residual.result c.from_residual.ensures.1 in
-    rw (p.1, p.2) (record { nearly = tt; silent = tt; given = λ held. record { core = c.args.core.now; may_be = inl refl; holds = inl held }; unkept = tt; serves = serves_same g.K.Keeper.faults g.K.Keeper.is_infallible c.args.keeper.now; fault = tt })
+    rw (p.1, p.2) (record { nearly = tt; silent = tt; given = λ held. record { core = c.args.core.now; may_be = inl refl; holds = inl held }; unkept = tt; serves = serves_same g.K.Keeper.faults g.K.Keeper.is_infallible c.args.keeper.now; fault = tt; twice = tt })
 
 pub returns-in_err-old : goal.returns-in_err-old
 returns-in_err-old g c =
     let p = err_from_is_err_and c.from_residual-in_err-old.result c.from_residual-in_err-old.ensures.1 in
-    rw (p.1, p.2) (record { nearly = tt; silent = tt; given = λ held. record { core = c.args.core.now; may_be = inl refl; holds = inl held }; unkept = tt; serves = serves_same g.K.Keeper.faults g.K.Keeper.is_infallible c.args.keeper.now; fault = tt })
+    rw (p.1, p.2) (record { nearly = tt; silent = tt; given = λ held. record { core = c.args.core.now; may_be = inl refl; holds = inl held }; unkept = tt; serves = serves_same g.K.Keeper.faults g.K.Keeper.is_infallible c.args.keeper.now; fault = tt; twice = tt })
 
 pub returns-in_default : goal.returns-in_default
 returns-in_default g c =
@@ -82,6 +86,7 @@ returns-in_default g c =
       unkept = inl refl;
       serves = serves_same g.K.Keeper.faults g.K.Keeper.is_infallible c.args.keeper.now;
       fault = tt;
+      twice = tt;
     }
 
 pub returns-in_err-save_or_load : goal.returns-in_err-save_or_load
@@ -97,6 +102,7 @@ returns-in_err-save_or_load g c =
       unkept = tt;
       serves = record { count = c.save_or_load.ensures.count; infallible = λ h. (c.save_or_load.ensures.infallible h).0 };
       fault = fails_so faults sure c.args.keeper.now then c.save_or_load.result c.in_err-save_or_load.field-0.0 c.in_err-save_or_load.was c.save_or_load.ensures.fault c.save_or_load.ensures.infallible;
+      twice = failed_twice (g.K.Keeper.contents c.args.keeper.now) (g.C.Core.stored c.args.core.now) c.args.low c.in_ok-old.old.items (faults c.args.keeper.now) (faults then) c.save_or_load.result c.in_err-save_or_load.field-0.0 c.in_err-save_or_load.was c.in_ok-old.ensures (rw c.deref.ensures.value at c.save_or_load.ensures.both_failed);
     })
 
 pub returns-in-New : goal.returns-in-New
@@ -110,6 +116,7 @@ returns-in-New g c =
       unkept = inl refl;
       serves = record { count = c.save_or_load.ensures.count; infallible = λ h. (c.save_or_load.ensures.infallible h).0 };
       fault = tt;
+      twice = tt;
     }
 
 pub returns : goal.returns
@@ -123,4 +130,5 @@ returns g c =
       unkept = inr (record { count = c.save_or_load.ensures.old_rose is; fallible = λ h. not_old c.save_or_load.result is (c.save_or_load.ensures.infallible h).1 });
       serves = record { count = c.save_or_load.ensures.count; infallible = λ h. (c.save_or_load.ensures.infallible h).0 };
       fault = tt;
+      twice = tt;
     }

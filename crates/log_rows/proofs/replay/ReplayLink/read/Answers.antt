@@ -5,11 +5,17 @@ use Rattle.mav_ports.specs.Gets.{CountsFault, GivesWithin, given}
 use Rattle.std.specs.Io.KnownBytes.{prepend_known}
 use Rattle.mav_ports.specs.Counts.{next_count}
 use Rattle.mav_ports.specs.declared.sources.Got.{Got}
-use Rattle.mav_ports.specs.declared.sources.Got.TheVariants.{Idle, End, Failed}
+use Rattle.mav_ports.specs.declared.sources.Got.TheVariants.{Bytes, Idle, End, Failed}
 use Rattle.log_rows.specs.Frames.{RowsHeld, is_over}
-use Rattle.log_rows.specs.Replays.{Asked, known_frames, IsNoneLeft}
+use Rattle.log_rows.specs.Replays.{Asked, known_frames, is_end, IsNoneLeft}
 use Rattle.log_rows.proofs.Turns.{LinkRead, counts_none, idles_stay, over_parts, known_over, nothing_left, spent_none, ends, known_step, begun, turn_known, turn_faults, turn_over, most_on, waits_on, failed_known, failed_faults, failed_over, is_failed, ended_by}
 use Rattle.log_rows.proofs.replay.ReplayLink.read.Goals as goal
+
+told_end : (got : Got) → is_end got ≡ true → got ≡ End
+told_end (Bytes n) never = absurd (cc never)
+told_end Idle never = absurd (cc never)
+told_end End e = refl
+told_end Failed never = absurd (cc never)
 
 pub returns-in_default : goal.returns-in_default
 returns-in_default g c =
@@ -24,19 +30,20 @@ returns-in_default g c =
       faults = counts_none got link.faults link.faults hand.works refl;
       idles = idles_stay got old.idles c.in_default.not-Idle;
       end = λ e. known_over new link.left (gives.over e) spent;
-      ended = gives.over;
-      stays = λ e. over (nothing_left old.rows e) c.in_default.not-Idle hand.works;
+      ended = λ e. c.is_end-self.ensures ∙ ap is_end e;
+      only_end = λ t. inr (told_end got (sym c.is_end-self.ensures ∙ t));
+      stays = λ e. over (nothing_left old.rows (old.told e)) c.in_default.not-Idle hand.works;
       sent = refl;
       most = omega arith;
       idle = λ e. absurd (c.in_default.not-Idle e);
-      asked = λ e. old.over (sym hand.ended ∙ (over_parts new (gives.over e)).0);
+      asked = λ e. old.closed (sym hand.ended ∙ (over_parts new (gives.over e)).0);
       over = λ ended none. over none c.in_default.not-Idle hand.works;
     }
 
 pub loop-read-init : goal.loop-read-init
 loop-read-init g c =
     let old = c.args.self.now in
-    record { waits = begun old.rows c.at_hand.new.self (g.L.Link.state old.link) c.at_hand.new.buf c.in-Idle.ensures.gives old.spent; idles = refl }
+    record { waits = begun old.rows c.at_hand.new.self (g.L.Link.state old.link) c.at_hand.new.buf c.in-Idle.ensures.gives old.spent; idles = refl; over = refl }
 
 pub take-requires-clause-held : goal.take-requires-clause-held
 take-requires-clause-held g c = c.loop-read.invariant.waits.held
@@ -71,7 +78,8 @@ returns-in_default-take g c =
             idles = idles;
             end = λ end. absurd (ends end);
             ended = λ end. absurd (ends end);
-            stays = λ over. absurd (begins over);
+            only_end = λ t. inr (told_end got (sym c.is_end-self-in_default-take.ensures ∙ t));
+            stays = λ told. absurd (begins (old.told told));
             sent = e.sent ∙ w.sent;
             most = fewer;
             idle = λ is. absurd (idle is);
@@ -87,8 +95,9 @@ returns-in_default-take g c =
             faults = turn_faults l._read old.rows now before link w read piece after r new got buf works gives (c.take.ensures.works works);
             idles = idles;
             end = λ end. known_over new after.left (gives.over end) (λ ended. spent_none after.left (e.end (closed ended)));
-            ended = gives.over;
-            stays = λ over. absurd (begins over);
+            ended = λ end. c.is_end-self-in_default-take.ensures ∙ ap is_end end;
+            only_end = λ t. inr (told_end got (sym c.is_end-self-in_default-take.ensures ∙ t));
+            stays = λ told. absurd (begins (old.told told));
             sent = e.sent ∙ w.sent;
             most = fewer;
             idle = λ is. absurd (idle is);
@@ -109,6 +118,7 @@ loop-read-preserved g c =
     record {
       waits = waits_on l._read old.rows l.self.rows before link w read piece after r c.take.new.self c.take.new.buf works (c.in-Idle-take.ensures.gives works) c.take.ensures.ends;
       idles = l.invariant.idles;
+      over = l.invariant.over;
     }
 
 pub returns-clause-bytes : goal.returns-clause-bytes
