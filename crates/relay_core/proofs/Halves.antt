@@ -27,7 +27,7 @@ use Rattle.relay_core.specs.Waitings.{WaitingState, counted, lost, nothing_waits
 
 -- ---- what is heard
 
-none_in_row : (why : Why) (bytes : List ℕ) → frames_of (map (skipped_for why) bytes) ≡ []
+pub none_in_row : (why : Why) (bytes : List ℕ) → frames_of (map (skipped_for why) bytes) ≡ []
 none_in_row why [] = refl
 none_in_row why (byte ∷ bytes) = none_in_row why bytes
 

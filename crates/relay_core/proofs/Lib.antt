@@ -4,6 +4,7 @@ mod FrameSteps
 mod FrameTried
 mod Halves
 mod Histories
+mod Judging
 mod Numbers
 mod Passing
 mod Places

@@ -9,7 +9,7 @@ use Rattle.mav_sign.specs.History.{is_admitted}
 use Rattle.mav_sign.specs.Kept.{Kept}
 use Rattle.mav_router.specs.Journal.{Rules}
 use Rattle.relay_rules.specs.States.{LinkState, RelayState, link_at, opened_link, taught}
-use Rattle.relay_rules.specs.Steps.{Event, opens, closes, hears, refuses}
+use Rattle.relay_rules.specs.Steps.{Event, opens, closes, hears, refuses, forgets}
 use Rattle.relay_rules.proofs.Numbering.{got_more, got_less}
 use Rattle.relay_core.specs.Flows.{Course, Goes, GoesBy, link_numbered, nothing_yet, passes, reaches}
 use Rattle.relay_core.specs.RelayRuns.{IsRun, RelayRun}
@@ -96,6 +96,8 @@ one_step rules (closes number) before after g r =
 one_step rules (hears number packet answer) before after g r =
     subst (λ (s : RelayState). Rising s.given s.links) (sym g.step.state) (rising_set before.state.given g.step.index before.state.links (taught (is_admitted answer) packet.from (link_at before.state.links g.step.index)) refl r)
 one_step rules (refuses port packet answer) before after g r =
+    subst (λ (n : ℕ). Rising n after.state.links) (sym g.step.given) (subst (λ (l : List LinkState). Rising before.state.given l) (sym g.step.links) r)
+one_step rules forgets before after g r =
     subst (λ (n : ℕ). Rising n after.state.links) (sym g.step.given) (subst (λ (l : List LinkState). Rising before.state.given l) (sym g.step.links) r)
 
 steps : (rules : Rules) (events : List Event) (before after : Course) → GoesBy rules events before after → Rising before.state.given before.state.links → Rising after.state.given after.state.links

@@ -135,7 +135,7 @@ gives_run rules start run index count old held now bytes within there feeds all 
       sent = λ n flow tape closed flow_is tape_is. h.sent n flow tape closed flow_is (closed_tape run index n own tape tape_now rises here refl closed tape_is);
     }
 
-all_fit : (bytes : List ℕ) (count held : ℕ) → length bytes ≤ 65536 → held < 280 → count ≡ min (length bytes) (65824 - held) → take count bytes ≡ bytes
+pub all_fit : (bytes : List ℕ) (count held : ℕ) → length bytes ≤ 65536 → held < 280 → count ≡ min (length bytes) (65824 - held) → take count bytes ≡ bytes
 all_fit bytes count held short less e = ap (λ (n : ℕ). take n bytes) fits ∙ whole bytes
   where
     fits : count ≡ length bytes

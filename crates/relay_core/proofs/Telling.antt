@@ -5,7 +5,7 @@ use Rattle.std.proofs.lemmas.Option.{slice_get-get_or}
 use Rattle.mav_router.specs.Journal.{Rules}
 use Rattle.relay_rules.specs.Kept.{head_of}
 use Rattle.relay_rules.specs.States.{LinkState, link_at}
-use Rattle.relay_rules.specs.Steps.{Event, closes, hears, opens, refuses}
+use Rattle.relay_rules.specs.Steps.{Event, closes, forgets, hears, opens, refuses}
 use Rattle.relay_rules.specs.declared.links.OpenLink.{OpenLink}
 use Rattle.relay_core.specs.Flows.{Told}
 use Rattle.relay_core.specs.Moves.{AreHeard, Moves, numbers_of, tells}
@@ -44,6 +44,7 @@ heard_more (hears number packet answer ∷ a) b f g = heard_more a b f g
 heard_more (opens number port ∷ a) b f g = f
 heard_more (closes number ∷ a) b f g = f
 heard_more (refuses port packet answer ∷ a) b f g = f
+heard_more (forgets ∷ a) b f g = f
 
 pub moves_on : (rules : Rules) (a b c : RelayKept) (s t u : Option (List Told)) → Moves rules a b s t → Moves rules b c t u → Moves rules a c s u
 moves_on rules a b c s t u first second start run is h =

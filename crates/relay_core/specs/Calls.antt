@@ -27,19 +27,24 @@ pub record RunIs (rules : Rules) (start : Kept) (run : RelayRun) (view : RelayKe
 
 abbrev pub Opens : Rules → ℕ → RelayKept → RelayKept → Type 0
 Opens rules port old new =
-    (start : Kept) (run : RelayRun) → IsRun rules start run → Holds rules run old → RunIs rules start (opened_run port run) new
+    (start : Kept) (run : RelayRun) → IsRun rules start run → Holds rules run old
+    → RunIs rules start (opened_run port run) new
 
 -- and of the link that closes so many frames were dropped
-pub record HasClosedWith (rules : Rules) (start : Kept) (index dropped : ℕ) (run : RelayRun) (new : RelayKept) : Type 0 where
+pub record HasClosedWith (rules : Rules) (start : Kept) (index dropped : ℕ) (run : RelayRun)
+    (new : RelayKept) : Type 0 where
   pub goes_on : RunIs rules start (closed_run index run) new
-  pub lost : (link : LinkState) (flow : Flow) (tape : Tape) → IsOpenAt run index link flow tape → (all : ℕ) × WasSent all flow tape × (dropped ≡ counted all)
+  pub lost : (link : LinkState) (flow : Flow) (tape : Tape) → IsOpenAt run index link flow tape → (all : ℕ)
+      × WasSent all flow tape × (dropped ≡ counted all)
 
 abbrev pub Closes : ℕ → ℕ → RelayKept → RelayKept → Type 0
 Closes index dropped old new =
-    (rules : Rules) (start : Kept) (run : RelayRun) → IsRun rules start run → Holds rules run old → HasClosedWith rules start index dropped run new
+    (rules : Rules) (start : Kept) (run : RelayRun) → IsRun rules start run → Holds rules run old
+    → HasClosedWith rules start index dropped run new
 
 -- these bytes are on the link's tape, and more frames have come in, of which the watcher was told
-pub record HasHeard (rules : Rules) (start : Kept) (index : ℕ) (bytes : List ℕ) (run : RelayRun) (new : RelayKept) (told telling : Option (List Told)) : Type 0 where
+pub record HasHeard (rules : Rules) (start : Kept) (index : ℕ) (bytes : List ℕ) (run : RelayRun) (new : RelayKept)
+    (told telling : Option (List Told)) : Type 0 where
   pub now : RelayRun
   pub goes_on : RunIs rules start now new
   pub tapes : now.tapes ≡ (gave_run index bytes run).tapes
@@ -52,14 +57,18 @@ pub record HasHeard (rules : Rules) (start : Kept) (index : ℕ) (bytes : List �
 
 abbrev pub Hears : Rules → ℕ → List ℕ → RelayKept → RelayKept → Option (List Told) → Option (List Told) → Type 0
 Hears rules index bytes old new told telling =
-    (start : Kept) (run : RelayRun) → IsRun rules start run → Holds rules run old → HasHeard rules start index bytes run new told telling
+    (start : Kept) (run : RelayRun) → IsRun rules start run → Holds rules run old
+    → HasHeard rules start index bytes run new told telling
 
 -- there was no memory for it all: what holds in part, and what was told so far
 abbrev pub HearsInPart : Rules → ℕ → List ℕ → RelayKept → Option (List Told) → Option (List Told) → Type 0
 HearsInPart rules index bytes old told telling =
-    (start : Kept) (run : RelayRun) → IsRun rules start run → Holds rules run old → Stopped rules start (gave_run index bytes run) told telling
+    (start : Kept) (run : RelayRun) → IsRun rules start run → Holds rules run old
+    → Stopped rules start (gave_run index bytes run) told telling
 
 -- so many of the bytes that are next are on its tape
 abbrev pub Takes : ℕ → ℕ → RelayKept → RelayKept → Type 0
 Takes index count old new =
-    (rules : Rules) (start : Kept) (run : RelayRun) (waiting : WaitingState) → IsRun rules start run → Holds rules run old → slice_get old.queues index ≡ Some waiting → RunIs rules start (took_run index (take count (next_bytes waiting.queue)) run) new
+    (rules : Rules) (start : Kept) (run : RelayRun) (waiting : WaitingState) → IsRun rules start run
+    → Holds rules run old → slice_get old.queues index ≡ Some waiting
+    → RunIs rules start (took_run index (take count (next_bytes waiting.queue)) run) new

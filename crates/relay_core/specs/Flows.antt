@@ -8,7 +8,7 @@ use Rattle.mav_sign.specs.Kept.{Kept}
 use Rattle.mav_router.specs.Journal.{Rules}
 use Rattle.relay_rules.specs.States.{LinkState, RelayState, goes_to, no_link}
 use Rattle.relay_rules.specs.Laws.{nothing_opened}
-use Rattle.relay_rules.specs.Steps.{Event, opens, closes, hears, refuses, Step}
+use Rattle.relay_rules.specs.Steps.{Event, opens, closes, hears, refuses, forgets, Step}
 
 -- of a link that was opened: its port, the frames that came in there, refused ones too, and those that go out there
 pub record Flow : Type 0 where
@@ -39,7 +39,8 @@ passes rules packet answer own other = is_admitted answer && goes_to rules packe
 -- and to the link with that number, which is open
 abbrev pub reaches : Rules → Packet → Admit → List LinkState → (own number : ℕ) → Bool
 reaches rules packet answer links own number =
-    list_any (λ (other : LinkState). (other.number == number) && passes rules packet answer (link_numbered own links) other) links
+    list_any (λ (other : LinkState). (other.number == number)
+    && passes rules packet answer (link_numbered own links) other) links
 
 -- the numbers of all those that it goes to
 abbrev pub ways_to : Rules → Packet → Admit → List LinkState → ℕ → List ℕ
@@ -67,8 +68,10 @@ each_from {A} f number (x ∷ xs) = f number x ∷ each_from f (number + 1) xs
 abbrev pub flows_after : Rules → Event → List LinkState → List Flow → List Flow
 flows_after rules (opens number port) links flows = flows ++ no_flow port ∷ []
 flows_after rules (closes number) links flows = flows
-flows_after rules (hears number packet answer) links flows = each_from (flow_after rules packet answer links number) 1 flows
+flows_after rules (hears number packet answer) links flows =
+    each_from (flow_after rules packet answer links number) 1 flows
 flows_after rules (refuses port packet answer) links flows = flows
+flows_after rules forgets links flows = flows
 
 abbrev pub one_told : ℕ → Packet → Admit → List ℕ → List Told
 one_told number packet answer to = (record { number = number; packet = packet; answer = answer; to = to }) ∷ []
@@ -77,8 +80,10 @@ one_told number packet answer to = (record { number = number; packet = packet; a
 abbrev pub told_of : Rules → Event → List LinkState → List Told
 told_of rules (opens number port) links = []
 told_of rules (closes number) links = []
-told_of rules (hears number packet answer) links = one_told number packet answer (ways_to rules packet answer links number)
+told_of rules (hears number packet answer) links =
+    one_told number packet answer (ways_to rules packet answer links number)
 told_of rules (refuses port packet answer) links = one_told 0 packet answer []
+told_of rules forgets links = []
 
 -- how far a relay is in its history: its state, what came in and went out so far, and what was told
 pub record Course : Type 0 where

@@ -4,4 +4,5 @@ pub mod Laws
 pub mod Moves
 pub mod RelayRuns
 pub mod Scans
+pub mod Strangers
 pub mod Waitings

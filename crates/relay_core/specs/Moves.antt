@@ -1,5 +1,6 @@
 -- What one call leads to, in any run.
-use Rattle.std.specs.Prelude.{ℕ, ◌≡◌, ◌+◌, ◌-◌, ◌<◌, Bool, false, if◌then◌else◌, List, [], ◌∷◌, ◌++◌, length, map, filter, get_or, slice_get, slice_set, Option, option_map, ⊤}
+use Rattle.std.specs.Prelude.{ℕ, ◌≡◌, ◌+◌, ◌-◌, ◌<◌, Bool, false, if◌then◌else◌, List, [], ◌∷◌, ◌++◌, length, map}
+use Rattle.std.specs.Prelude.{filter, get_or, slice_get, slice_set, Option, option_map, ⊤}
 use Rattle.mav_frame.specs.Packet.{Packet}
 use Rattle.mav_sign.specs.declared.admission.Admit.{Admit}
 use Rattle.mav_sign.specs.Kept.{Kept}
@@ -8,7 +9,7 @@ use Rattle.link_table.specs.OpenLinks.{has_link}
 use Rattle.mav_router.specs.Journal.{Rules}
 use Rattle.relay_rules.specs.Kept.{LinksKept, Represents}
 use Rattle.relay_rules.specs.States.{LinkState, RelayState, closed, link_at, opened}
-use Rattle.relay_rules.specs.Steps.{Event, Hears, closes, hears, opens, refuses}
+use Rattle.relay_rules.specs.Steps.{Event, Hears, closes, forgets, hears, opens, refuses}
 use Rattle.relay_rules.specs.declared.links.OpenLink.{OpenLink}
 use Rattle.relay_core.specs.Flows.{Told, no_flow, one_told, passes}
 use Rattle.relay_core.specs.RelayRuns.{HoldsInPart, HoldsSoFar, IsRun, RelayKept, RelayRun, Tape}
@@ -23,15 +24,19 @@ numbers_of goes k [] = []
 numbers_of goes k (link ∷ links) =
     if goes k then link.number ∷ numbers_of goes (k + 1) links else numbers_of goes (k + 1) links
 
--- what a frame does that came in at the open link with that index, before it waits anywhere; a bit for each link to which
--- it goes
-pub record IsTried (rules : Rules) (index bits : ℕ) (packet : Packet) (before : RelayState) (links : LinksKept) (told telling : Option (List Told)) : Type 0 where
+-- what a frame does that came in at the open link with that index, before it waits anywhere; a bit for each link to
+-- which it goes
+pub record IsTried (rules : Rules) (index bits : ℕ) (packet : Packet) (before : RelayState) (links : LinksKept)
+    (told telling : Option (List Told)) : Type 0 where
   pub answer : Admit
   pub after : RelayState
   pub step : Hears rules (link_at before.links index).number packet answer before after
   pub links_are : Represents links after
-  pub ways : (k : ℕ) → k < length before.links → has_link bits k ≡ passes rules packet answer (link_at before.links index) (link_at before.links k)
-  pub tells_it : telling ≡ tells told (one_told (link_at before.links index).number packet answer (map (λ (link : LinkState). link.number) (filter (passes rules packet answer (link_at before.links index)) before.links)))
+  pub ways : (k : ℕ) → k < length before.links
+      → has_link bits k ≡ passes rules packet answer (link_at before.links index) (link_at before.links k)
+  pub tells_it : telling ≡ tells told (one_told (link_at before.links index).number packet answer
+      (map (λ (link : LinkState). link.number)
+      (filter (passes rules packet answer (link_at before.links index)) before.links)))
 
 -- frames come in, and no link opens or closes
 abbrev pub AreHeard : List Event → Type 0
@@ -40,9 +45,11 @@ AreHeard (hears number packet answer ∷ events) = AreHeard events
 AreHeard (opens number port ∷ events) = ⊥
 AreHeard (closes number ∷ events) = ⊥
 AreHeard (refuses port packet answer ∷ events) = ⊥
+AreHeard (forgets ∷ events) = ⊥
 
 -- a run goes on with frames, without a byte more, and holds of what a relay keeps now
-pub record Moved (rules : Rules) (start : Kept) (run : RelayRun) (new : RelayKept) (told telling : Option (List Told)) : Type 0 where
+pub record Moved (rules : Rules) (start : Kept) (run : RelayRun) (new : RelayKept)
+    (told telling : Option (List Told)) : Type 0 where
   pub now : RelayRun
   pub is_run : IsRun rules start now
   pub holds : HoldsSoFar rules now new
@@ -56,7 +63,8 @@ pub record Moved (rules : Rules) (start : Kept) (run : RelayRun) (new : RelayKep
 
 abbrev pub Moves : Rules → RelayKept → RelayKept → Option (List Told) → Option (List Told) → Type 0
 Moves rules old new told telling =
-    (start : Kept) (run : RelayRun) → IsRun rules start run → HoldsSoFar rules run old → Moved rules start run new told telling
+    (start : Kept) (run : RelayRun) → IsRun rules start run → HoldsSoFar rules run old
+    → Moved rules start run new told telling
 
 -- a run goes on with frames until there is no memory
 pub record Stopped (rules : Rules) (start : Kept) (run : RelayRun) (told telling : Option (List Told)) : Type 0 where
@@ -73,7 +81,8 @@ pub record Stopped (rules : Rules) (start : Kept) (run : RelayRun) (told telling
 
 abbrev pub Stops : Rules → RelayKept → Option (List Told) → Option (List Told) → Type 0
 Stops rules old told telling =
-    (start : Kept) (run : RelayRun) → IsRun rules start run → HoldsSoFar rules run old → Stopped rules start run told telling
+    (start : Kept) (run : RelayRun) → IsRun rules start run → HoldsSoFar rules run old
+    → Stopped rules start run told telling
 
 -- what the scanner with that index holds
 abbrev pub held_at : List Held → ℕ → Held

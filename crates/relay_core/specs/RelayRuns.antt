@@ -67,8 +67,8 @@ pub record WasHeard (rules : Rules) (flow : Flow) (tape : Tape) : Type 0 where
   pub parsed : Incremental (extras_of rules.known) (has_port rules.plain flow.port) found left tape.given
   pub heard : frames_of found ≡ flow.heard
 
--- what it took are whole frames of those that go out there, in their order, and perhaps a part of the next one; so many
--- of them were dropped
+-- what it took are whole frames of those that go out there, in their order, and perhaps a part of the next one; so
+-- many of them were dropped
 abbrev pub WasSent : ℕ → Flow → Tape → Type 0
 WasSent dropped flow tape = Delivered (sent_bytes flow) dropped tape.taken
 
@@ -80,17 +80,22 @@ pub record IsOpenAt (run : RelayRun) (index : ℕ) (link : LinkState) (flow : Fl
 
 -- the link with that number, counted from 0, isn't open
 abbrev pub HasClosed : RelayRun → ℕ → Type 0
-HasClosed run n = (index : ℕ) (link : LinkState) → slice_get run.course.state.links index ≡ Some link → link.number ≡ n + 1 → ⊥
+HasClosed run n = (index : ℕ) (link : LinkState) → slice_get run.course.state.links index ≡ Some link
+    → link.number ≡ n + 1 → ⊥
 
 -- what holds of a relay so far in a run, between two frames too
 pub record HoldsSoFar (rules : Rules) (run : RelayRun) (view : RelayKept) : Type 0 where
   pub links : Represents view.links run.course.state
   pub flows : length run.course.flows ≡ run.course.state.given
   pub tapes : length run.tapes ≡ run.course.state.given
-  pub hearing : (index : ℕ) (link : LinkState) (flow : Flow) (tape : Tape) (held : Held) → IsOpenAt run index link flow tape → slice_get view.scanners index ≡ Some held → Hearing rules flow tape held
-  pub sending : (index : ℕ) (link : LinkState) (flow : Flow) (tape : Tape) (waiting : WaitingState) → IsOpenAt run index link flow tape → slice_get view.queues index ≡ Some waiting → Sending flow tape waiting
-  pub heard : (n : ℕ) (flow : Flow) (tape : Tape) → HasClosed run n → slice_get run.course.flows n ≡ Some flow → slice_get run.tapes n ≡ Some tape → WasHeard rules flow tape
-  pub sent : (n : ℕ) (flow : Flow) (tape : Tape) → HasClosed run n → slice_get run.course.flows n ≡ Some flow → slice_get run.tapes n ≡ Some tape → (dropped : ℕ) × WasSent dropped flow tape
+  pub hearing : (index : ℕ) (link : LinkState) (flow : Flow) (tape : Tape) (held : Held)
+      → IsOpenAt run index link flow tape → slice_get view.scanners index ≡ Some held → Hearing rules flow tape held
+  pub sending : (index : ℕ) (link : LinkState) (flow : Flow) (tape : Tape) (waiting : WaitingState)
+      → IsOpenAt run index link flow tape → slice_get view.queues index ≡ Some waiting → Sending flow tape waiting
+  pub heard : (n : ℕ) (flow : Flow) (tape : Tape) → HasClosed run n → slice_get run.course.flows n ≡ Some flow
+      → slice_get run.tapes n ≡ Some tape → WasHeard rules flow tape
+  pub sent : (n : ℕ) (flow : Flow) (tape : Tape) → HasClosed run n → slice_get run.course.flows n ≡ Some flow
+      → slice_get run.tapes n ≡ Some tape → (dropped : ℕ) × WasSent dropped flow tape
 
 -- the frames heard of a link are those of a prefix of the parse of what it gave
 pub record WasHeardInPart (rules : Rules) (flow : Flow) (tape : Tape) : Type 0 where
@@ -101,8 +106,10 @@ pub record WasHeardInPart (rules : Rules) (flow : Flow) (tape : Tape) : Type 0 w
 
 -- what holds of each link, open or closed, of a run that stopped where there was no memory
 pub record HoldsInPart (rules : Rules) (run : RelayRun) : Type 0 where
-  pub heard : (n : ℕ) (flow : Flow) (tape : Tape) → slice_get run.course.flows n ≡ Some flow → slice_get run.tapes n ≡ Some tape → WasHeardInPart rules flow tape
-  pub sent : (n : ℕ) (flow : Flow) (tape : Tape) → slice_get run.course.flows n ≡ Some flow → slice_get run.tapes n ≡ Some tape → (dropped : ℕ) × WasSent dropped flow tape
+  pub heard : (n : ℕ) (flow : Flow) (tape : Tape) → slice_get run.course.flows n ≡ Some flow
+      → slice_get run.tapes n ≡ Some tape → WasHeardInPart rules flow tape
+  pub sent : (n : ℕ) (flow : Flow) (tape : Tape) → slice_get run.course.flows n ≡ Some flow
+      → slice_get run.tapes n ≡ Some tape → (dropped : ℕ) × WasSent dropped flow tape
 
 -- and between two calls: all frames of what the links gave were heard
 pub record Holds (rules : Rules) (run : RelayRun) (view : RelayKept) : Type 0 where

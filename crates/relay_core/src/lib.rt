@@ -12,6 +12,7 @@ pub mod laws;
 mod queues;
 mod relay;
 mod scanners;
+mod strangers;
 mod streams;
 mod waiting;
 mod watcher;

@@ -1,5 +1,6 @@
 // What waits for the links.
-ghost use Rattle.std.specs.Prelude.{◌≡◌, ◌+◌, ◌<◌, ◌≤◌, ◌++◌, ◌∷◌, [], length, slice_get, slice_set, IfOk, OnOk, OnErr, Some, vec_len, vec_capacity};
+ghost use Rattle.std.specs.Prelude.{◌≡◌, ◌+◌, ◌<◌, ◌≤◌, ◌++◌, ◌∷◌, [], length, slice_get, slice_set, IfOk, OnOk};
+ghost use Rattle.std.specs.Prelude.{OnErr, Some, vec_len, vec_capacity};
 ghost use Rattle.std.specs.List.{remove};
 ghost use Rattle.link_table.specs.OpenLinks.{has_link};
 ghost use Rattle.relay_queue.specs.Queues.{next_bytes};
@@ -115,8 +116,8 @@ impl Queues {
         Ok(())
     }
 
-    /// The link with that index closes, and nothing waits for it any more; each later link's index is one less. Returns
-    /// how many of its frames were dropped, with those that weren't written to their ends.
+    /// The link with that index closes, and nothing waits for it any more; each later link's index is one less.
+    /// Returns how many of its frames were dropped, with those that weren't written to their ends.
     pub fn close(&mut self, index: usize) -> u64
         requires { index < length self.old }
         ensures queues { self.new ≡ remove self.old index }

@@ -1,13 +1,16 @@
 // The switch of a relay.
-ghost use Rattle.std.specs.Prelude.{◌≡◌, ◌+◌, ◌<◌, ◌≤◌, ◌^◌, ◌++◌, ◌∷◌, [], length, slice_get, Some, IfOk, OnOk, OnErr, IsTrue};
+ghost use Rattle.std.specs.Prelude.{◌≡◌, ◌+◌, ◌<◌, ◌≤◌, ◌^◌, ◌++◌, ◌∷◌, [], length, slice_get, Some, IfOk, OnOk};
+ghost use Rattle.std.specs.Prelude.{OnErr, IsTrue};
 ghost use Rattle.std.specs.List.{remove};
 ghost use Rattle.relay_queue.specs.Queues.{next_bytes};
 ghost use Rattle.relay_core.specs.Calls.{Closes, Hears, HearsInPart, IsNew, Opens, Takes};
+ghost use Rattle.relay_core.specs.Strangers.{Judges, JudgesInPart};
 ghost use Rattle.relay_core.specs.Waitings.{WaitingState, lost};
 
 use crate::NoMemory;
 use crate::queues::Queues;
 use crate::scanners::Scanners;
+use crate::strangers::{frame_place, judge_all};
 use crate::streams::hear_all;
 use crate::watcher::Watcher;
 use mav_router::RouterRules;
@@ -147,6 +150,33 @@ impl Relay {
         )
     }
 
+    /// Judges the datagram of somebody at a port who has no link yet, as on a link of its own: what it leaves
+    /// unfinished is forgotten. The watcher is told of each frame that is refused. Returns where the first one begins
+    /// that would be admitted: once the sender has a link, `hear` judges it and what comes after it.
+    pub fn judge_stranger<W: Watcher>(
+        &mut self,
+        rules: &RouterRules<'_>,
+        port: u8,
+        bytes: &[u8],
+        watcher: &mut W,
+    ) -> Result<Option<usize>, NoMemory>
+        requires from { 1 ≤ port }
+        requires to { port ≤ rules.now.ports }
+        requires ports { rules.now.ports ≤ 8 }
+        requires short { length bytes.now ≤ 65536 }
+        ensures judges { IfOk result (Judges rules.now port bytes.now self.old self.new (W.told watcher.old)
+            (W.told watcher.new)) }
+        ensures stops { OnErr result (JudgesInPart rules.now port bytes.now self.old self.new (W.told watcher.old)
+            (W.told watcher.new)) }
+        ensures links { self.new.links.links ≡ self.old.links.links }
+        ensures others { (self.new.scanners ≡ self.old.scanners) × (self.new.queues ≡ self.old.queues) }
+    {
+        let mut scanner = self.scanners.make(rules, port)?;
+        let _taken = scanner.feed(bytes);
+        judge_all(&mut self.links, &mut scanner, rules, port, watcher)?;
+        Ok(frame_place(&scanner, bytes.len()))
+    }
+
     /// The bytes to write next to the open link with that index.
     pub fn next_bytes(&self, index: usize) -> &[u8]
         requires { index < length self.now.links.links }
@@ -170,7 +200,8 @@ impl Relay {
     /// How many frames of that link were dropped so far.
     pub fn dropped(&self, index: usize) -> u64
         requires { index < length self.now.links.links }
-        ensures { (waiting : WaitingState) → slice_get self.now.queues index ≡ Some waiting → result ≡ waiting.dropped }
+        ensures { (waiting : WaitingState) → slice_get self.now.queues index ≡ Some waiting
+            → result ≡ waiting.dropped }
     {
         self.queues.dropped(index)
     }

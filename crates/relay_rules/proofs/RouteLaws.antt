@@ -11,7 +11,7 @@ use Rattle.link_table.proofs.Bits.{same_or}
 use Rattle.mav_router.specs.Journal.{Rules, is_unsigned, target_by}
 use Rattle.relay_rules.specs.Laws.{GoesAsRouted, LearnsAsRouted, NeverBack, NeverTwice, names_at, nothing_opened, numbers_in}
 use Rattle.relay_rules.specs.States.{RelayState}
-use Rattle.relay_rules.specs.Steps.{Event, Leads, Step, opens, closes, hears, refuses}
+use Rattle.relay_rules.specs.Steps.{Event, Leads, Step, opens, closes, hears, refuses, forgets}
 
 same : (n : ℕ) → (n == n) ≡ true
 same n = grind (arith, common_steps)
@@ -27,12 +27,14 @@ given_step rules (opens number port) before after s = ap (λ (t : RelayState). t
 given_step rules (closes number) before after s = ap (λ (t : RelayState). t.given) s.state ∙ omega arith
 given_step rules (hears number packet answer) before after s = ap (λ (t : RelayState). t.given) s.state ∙ omega arith
 given_step rules (refuses port packet answer) before after s = s.given ∙ omega arith
+given_step rules forgets before after s = s.given ∙ omega arith
 
 one_more : (event : Event) (events : List Event) → length (numbers_in (event ∷ events)) ≡ length (numbers_in (event ∷ [])) + length (numbers_in events)
 one_more (opens number port) events = omega arith
 one_more (closes number) events = omega arith
 one_more (hears number packet answer) events = omega arith
 one_more (refuses port packet answer) events = omega arith
+one_more forgets events = omega arith
 
 numbered : (rules : Rules) (before after : List Event) (number port : ℕ) (first state : RelayState) → Leads rules (before ++ opens number port ∷ after) first state → number ≡ first.given + length (numbers_in before) + 1
 numbered rules [] after number port first state l = let next = l.1.next in omega (arith, next)

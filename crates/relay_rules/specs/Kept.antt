@@ -27,6 +27,7 @@ pub record Represents (view : LinksKept) (state : RelayState) : Type 0 where
 
 -- the numbers rise, and none is above how many were given; ports are numbered from 1, and there are at most 8
 pub record AreNumbered (given : ℕ) (links : List OpenLink) : Type 0 where
-  pub rise : (i j : ℕ) (a b : OpenLink) → i < j → slice_get links i ≡ Some a → slice_get links j ≡ Some b → a.number < b.number
+  pub rise : (i j : ℕ) (a b : OpenLink) → i < j → slice_get links i ≡ Some a → slice_get links j ≡ Some b
+      → a.number < b.number
   pub most : (i : ℕ) (a : OpenLink) → slice_get links i ≡ Some a → a.number ≤ given
   pub ports : (i : ℕ) (a : OpenLink) → slice_get links i ≡ Some a → (1 ≤ a.port) × (a.port ≤ 8)

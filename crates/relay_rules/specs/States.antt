@@ -1,5 +1,6 @@
 -- What the links of a relay are, and where a frame goes among them (MAVLink guide, Routing).
-use Rattle.std.specs.Prelude.{ℕ, ◌==◌, ◌+◌, ◌&&◌, ◌||◌, not, Bool, if◌then◌else◌, List, [], ◌∷◌, ◌++◌, get_or, slice_set}
+use Rattle.std.specs.Prelude.{ℕ, ◌==◌, ◌+◌, ◌&&◌, ◌||◌, not, Bool, if◌then◌else◌, List, [], ◌∷◌, ◌++◌, get_or}
+use Rattle.std.specs.Prelude.{slice_set}
 use Rattle.std.specs.List.{remove}
 use Rattle.mav_names.specs.declared.names.Name.{Name}
 use Rattle.mav_frame.specs.Packet.{Packet}
@@ -14,7 +15,8 @@ pub record LinkState : Type 0 where
   pub port : ℕ
   pub names : List Name
 
--- how many links were opened, those that are open in the order of their opening, and what the verifier of all links keeps
+-- how many links were opened, those that are open in the order of their opening, and what the verifier of all links
+-- keeps
 pub record RelayState : Type 0 where
   pub given : ℕ
   pub links : List LinkState

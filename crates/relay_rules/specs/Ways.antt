@@ -10,8 +10,10 @@ is_chosen link k behind own is_signed plain =
     not (k == own) && (has_link behind k && (is_signed || has_port plain link.port))
 
 -- these are the links that it goes to, of so many of them
-pub record ChoosesOf (count : ℕ) (links : List OpenLink) (behind own : ℕ) (is_signed : Bool) (plain : List Bool) (ways : ℕ) : Type 0 where
-  pub each : (k : ℕ) (link : OpenLink) → k < count → slice_get links k ≡ Some link → has_link ways k ≡ is_chosen link k behind own is_signed plain
+pub record ChoosesOf (count : ℕ) (links : List OpenLink) (behind own : ℕ) (is_signed : Bool) (plain : List Bool)
+    (ways : ℕ) : Type 0 where
+  pub each : (k : ℕ) (link : OpenLink) → k < count → slice_get links k ≡ Some link
+      → has_link ways k ≡ is_chosen link k behind own is_signed plain
   pub few : (k : ℕ) → count ≤ k → has_link ways k ≡ false
 
 abbrev pub Chooses : List OpenLink → (behind own : ℕ) → Bool → List Bool → ℕ → Type 0

@@ -1,5 +1,6 @@
 // The links of a relay.
-ghost use Rattle.std.specs.Prelude.{◌≡◌, ◌+◌, ◌<◌, ◌≤◌, ◌&&◌, [], ℕ, length, slice_get, Some, IfOk, OnOk, OnErr, IsTrue, ◌^◌, ◌++◌, ◌∷◌, true, false, vec_len, vec_capacity};
+ghost use Rattle.std.specs.Prelude.{◌≡◌, ◌+◌, ◌<◌, ◌≤◌, ◌&&◌, [], ℕ, length, slice_get, Some, IfOk, OnOk, OnErr};
+ghost use Rattle.std.specs.Prelude.{IsTrue, ◌^◌, ◌++◌, ◌∷◌, true, false, vec_len, vec_capacity};
 ghost use Rattle.std.specs.List.{remove};
 ghost use Rattle.link_table.specs.OpenLinks.{has_link};
 ghost use Rattle.link_table.specs.Routing.{has_port};
@@ -67,7 +68,8 @@ impl Model for Links {
 
     ghost view = { λ l. record { given = l.given; links = l.links.items; words = l.table; kept = l.stamps } };
 
-    ghost invariant = { λ l. (vec_len l.links ≤ 32) × (32 ≤ vec_capacity l.links) × AreNumbered l.given l.links.items };
+    ghost invariant = { λ l. (vec_len l.links ≤ 32) × (32 ≤ vec_capacity l.links)
+        × AreNumbered l.given l.links.items };
 }
 
 fn add(links: &mut Vec<OpenLink>, link: OpenLink)
@@ -189,7 +191,8 @@ impl Links {
     /// Has the verifier forget who left, if it has no room for another stream.
     pub fn make_room(&mut self) -> Result<(), NoMemory>
         ensures kept { OnOk result (HasRoom self.old.kept self.new.kept) }
-        ensures links { (self.new.given ≡ self.old.given) × (self.new.links ≡ self.old.links) × (self.new.words ≡ self.old.words) }
+        ensures links { (self.new.given ≡ self.old.given) × (self.new.links ≡ self.old.links)
+            × (self.new.words ≡ self.old.words) }
         ensures unchanged { OnErr result (self.new ≡ self.old) }
     {
         self.stamps.make_room()?;
@@ -228,9 +231,12 @@ impl Links {
         requires verifies { judgement.verifies ≡ verified rules.now.key frame.now frame.now.block }
         requires target { judgement.target ≡ target_by rules.now frame.now }
         ensures verdict { (state : RelayState) → Represents self.old state
-            → IsVerdictBy rules.now.key (has_port rules.now.plain (link_at state.links index).port) self.old.kept self.new.kept frame.now result.admit }
+            → IsVerdictBy rules.now.key (has_port rules.now.plain (link_at state.links index).port) self.old.kept
+            self.new.kept frame.now result.admit }
         ensures ways { (state : RelayState) → Represents self.old state
-            → (k : ℕ) → k < length state.links → has_link result.ways.bits k ≡ (is_admitted result.admit && goes_to rules.now frame.now (link_at state.links index) (link_at state.links k)) }
+            → (k : ℕ) → k < length state.links → has_link result.ways.bits k
+            ≡ (is_admitted result.admit && goes_to rules.now frame.now (link_at state.links index)
+            (link_at state.links k)) }
         ensures few { (k : ℕ) → length self.old.links ≤ k → has_link result.ways.bits k ≡ false }
         ensures state { (state : RelayState) → Represents self.old state
             → Represents self.new (heard index (is_admitted result.admit) frame.now.from self.new.kept state) }
@@ -262,7 +268,8 @@ impl Links {
         requires within { index < length self.old.links }
         requires target { target ≡ target_by rules.now frame.now }
         ensures ways { (state : RelayState) → Represents self.old state
-            → (k : ℕ) → k < length state.links → has_link result.bits k ≡ (is_admitted admit && goes_to rules.now frame.now (link_at state.links index) (link_at state.links k)) }
+            → (k : ℕ) → k < length state.links → has_link result.bits k
+            ≡ (is_admitted admit && goes_to rules.now frame.now (link_at state.links index) (link_at state.links k)) }
         ensures few { (k : ℕ) → length self.old.links ≤ k → has_link result.bits k ≡ false }
         ensures kept { self.new.kept ≡ self.old.kept }
         ensures links { self.new.links ≡ self.old.links }
@@ -288,7 +295,8 @@ impl Links {
         requires within { index < length self.old.links }
         requires target { target ≡ target_by rules.now frame.now }
         ensures ways { (state : RelayState) → Represents self.old state
-            → (k : ℕ) → k < length state.links → has_link result.bits k ≡ goes_to rules.now frame.now (link_at state.links index) (link_at state.links k) }
+            → (k : ℕ) → k < length state.links → has_link result.bits k
+            ≡ goes_to rules.now frame.now (link_at state.links index) (link_at state.links k) }
         ensures few { (k : ℕ) → length self.old.links ≤ k → has_link result.bits k ≡ false }
         ensures kept { self.new.kept ≡ self.old.kept }
         ensures links { self.new.links ≡ self.old.links }
