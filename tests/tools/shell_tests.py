@@ -19,6 +19,15 @@ printf '%s\\n' "${COMPREPLY[@]}"
 """
 
 
+# What the completion system of zsh would have set, and calls of it that print what they are given.
+ZSH_COMPLETE = """
+compadd() { shift; print -l -- "$@"; }
+_files() { print -l -- *(N); }
+words=("${@:2}") CURRENT=$(($# - 1))
+. "$1"
+"""
+
+
 def made(*words):
     """Returns what a script of packaging/ prints."""
     script = os.path.join(TOP, "packaging", words[0])
@@ -51,9 +60,23 @@ def test_completion_of_bash():
 def test_completion_of_zsh():
     if not shutil.which("zsh"):
         raise Skipped("zsh is not installed")
-    done = subprocess.run(["zsh", "-n"], input=made("completion", "zsh"), capture_output=True, text=True, check=False,
-                          timeout=60)
-    same("zsh -n", (done.returncode, done.stderr), (0, ""))
+    with tempfile.TemporaryDirectory() as folder:
+        with open(os.path.join(folder, "completion"), "w", encoding="utf-8") as file:
+            file.write(made("completion", "zsh"))
+
+        def offered(*words):
+            script = ["zsh", "-f", "-c", ZSH_COMPLETE, "zsh", "./completion", "bevuntri", *words]
+            done = subprocess.run(script, cwd=folder, capture_output=True, text=True, check=False, timeout=60)
+            same(words, (done.returncode, done.stderr), (0, ""))
+            return set(done.stdout.split())
+        firsts = {name.split()[0] for name in [*commands.COMMANDS, *commands.TOOLS, *commands.OWN]}
+        same("first words", offered("") >= firsts, True)
+        same("log", offered("log", ""), {"make", "show", "filter"})
+        for name, command in commands.COMMANDS.items():
+            same(name, offered(*name.split(), "--") >= set(command.options), True)
+        same("a file's name", offered("route", "--key", "c"), {"completion"})
+        same("a number", offered("drone", "--turns", ""), set())
+        same("ports", offered("drone", "") >= {"tcp:", "udp:", "udplisten:"}, True)
 
 
 def test_man_page():

@@ -1,5 +1,6 @@
 -- What is done with the bytes of a key's input.
-use Rattle.std.specs.Prelude.{◌≡◌, ◌≤◌, ℕ, nat_lt, Bool, true, false, if◌then◌else◌, List, [], length, Option, Some, None}
+use Rattle.std.specs.Prelude.{◌≡◌, ◌≤◌, ℕ, nat_lt, Bool, true, false, if◌then◌else◌, List, [], length, Option, Some}
+use Rattle.std.specs.Prelude.{None}
 use Rattle.std.specs.Io.KnownBytes.{prepend_known}
 use Rattle.run_status.specs.declared.input_errors.Place.TheVariants.{Key as KeyPlace}
 use Rattle.run_status.specs.declared.input_errors.Reason.TheVariants.{Key as KeyReason}
@@ -42,7 +43,8 @@ abbrev pub given_key_spec : CommandSpec
 given_key_spec = spec_by key_of
 
 -- an input was taken to its end, and it holds this key
-pub record HoldsBy (read : List ℕ → Option (List ℕ)) (spent : Type 0) (left_before left_after : Option (List ℕ)) (key : List ℕ) : Type 0 where
+pub record HoldsBy (read : List ℕ → Option (List ℕ)) (spent : Type 0) (left_before left_after : Option (List ℕ))
+    (key : List ℕ) : Type 0 where
   pub taken : List ℕ
   pub took : left_before ≡ prepend_known taken left_after
   pub at_end : spent

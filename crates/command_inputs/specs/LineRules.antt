@@ -1,5 +1,6 @@
 -- Bytes that are read line by line, whatever the lines lead to.
-use Rattle.std.specs.Prelude.{ℕ, ◌+◌, nat_lt, Bool, true, false, if◌then◌else◌, List, [], ◌∷◌, length, Option, Some, None}
+use Rattle.std.specs.Prelude.{ℕ, ◌+◌, nat_lt, Bool, true, false, if◌then◌else◌, List, [], ◌∷◌, length, Option, Some}
+use Rattle.std.specs.Prelude.{None}
 use Rattle.scenario_lines.specs.Grammar.{most_line_bytes}
 use Rattle.scenario_lines.specs.FileLines.{whole_lines, unfinished, without_cr, most_lines}
 
@@ -28,7 +29,8 @@ line_read rules r number raw =
 -- the lines from `number` on, up to the first that stops
 abbrev pub lines_read : {R E : Type 0} → LineRules R E → R → ℕ → List (List ℕ) → R
 lines_read rules r number [] = r
-lines_read rules r number (raw ∷ more) = unless_stopped (rules.stop r) r (lines_read rules (line_read rules r number raw) (number + 1) more)
+lines_read rules r number (raw ∷ more) =
+    unless_stopped (rules.stop r) r (lines_read rules (line_read rules r number raw) (number + 1) more)
 
 -- a last line without LF keeps its CR, and counts if it isn't empty
 abbrev pub last_read : {R E : Type 0} → LineRules R E → R → ℕ → List ℕ → R
@@ -53,4 +55,5 @@ rest_read rules false r number rest = part_read rules r number rest
 abbrev pub bytes_read : {R E : Type 0} → LineRules R E → R → Bool → List ℕ → R
 bytes_read rules start ended bytes =
     let lines = lines_read rules start 1 (whole_lines bytes) in
-    unless_stopped (rules.stop lines) lines (rest_read rules ended lines (length (whole_lines bytes) + 1) (unfinished bytes))
+    unless_stopped (rules.stop lines) lines (rest_read rules ended lines (length (whole_lines bytes) + 1)
+    (unfinished bytes))

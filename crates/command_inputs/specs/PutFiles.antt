@@ -1,5 +1,6 @@
 -- What is done with the bytes of a file that a station stores on a drone.
-use Rattle.std.specs.Prelude.{◌≡◌, ◌<◌, ◌≤◌, ℕ, nat_lt, Bool, true, false, if◌then◌else◌, List, [], length, Option, Some, None}
+use Rattle.std.specs.Prelude.{◌≡◌, ◌<◌, ◌≤◌, ℕ, nat_lt, Bool, true, false, if◌then◌else◌, List, [], length, Option}
+use Rattle.std.specs.Prelude.{Some, None}
 use Rattle.std.specs.Io.KnownBytes.{prepend_known}
 use Rattle.run_status.specs.declared.input_errors.Place.TheVariants.{Operation}
 use Rattle.run_status.specs.declared.input_errors.Reason.TheVariants.{Refused}
@@ -30,7 +31,8 @@ pub record HoldsFile (spent : Type 0) (left_before left_after : Option (List ℕ
   pub fits : length bytes ≤ most_file_bytes
 
 -- these bytes were taken of an input, which hasn't failed
-pub record Held (first : Option (List ℕ)) (faults idles : ℕ) (left : Option (List ℕ)) (faults_now idles_now : ℕ) (bytes : List ℕ) : Type 0 where
+pub record Held (first : Option (List ℕ)) (faults idles : ℕ) (left : Option (List ℕ)) (faults_now idles_now : ℕ)
+    (bytes : List ℕ) : Type 0 where
   pub took : first ≡ prepend_known bytes left
   pub faults_are : faults_now ≡ faults
   pub idles_are : idles ≤ idles_now

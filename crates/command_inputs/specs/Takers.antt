@@ -71,7 +71,8 @@ lines_spec says start = record {
 }
 
 -- an input was taken to its end, and its lines lead to exactly this state
-pub record HoldsLines {S : Type 0} (says : Says S) (start : S) (spent : Type 0) (left_before left_after : Option (List ℕ)) (state : S) : Type 0 where
+pub record HoldsLines {S : Type 0} (says : Says S) (start : S) (spent : Type 0)
+    (left_before left_after : Option (List ℕ)) (state : S) : Type 0 where
   pub taken : List ℕ
   pub took : left_before ≡ prepend_known taken left_after
   pub at_end : spent
@@ -79,7 +80,8 @@ pub record HoldsLines {S : Type 0} (says : Says S) (start : S) (spent : Type 0) 
 
 -- an input was taken up to where a run halts: its lines stop it, or a read failed, or it was idle for too long before
 -- that, or there was no memory
-pub record HaltsLines {S : Type 0} (says : Says S) (start : S) (o : PortOutcome) (left_before left_after : Option (List ℕ)) (run_end : RunEnd) : Type 0 where
+pub record HaltsLines {S : Type 0} (says : Says S) (start : S) (o : PortOutcome)
+    (left_before left_after : Option (List ℕ)) (run_end : RunEnd) : Type 0 where
   pub taken : List ℕ
   pub ended : Bool
   pub took : left_before ≡ prepend_known taken left_after
@@ -87,6 +89,9 @@ pub record HaltsLines {S : Type 0} (says : Says S) (start : S) (o : PortOutcome)
   pub cause : Cause (lines_spec says start) (Some run_end) o ended taken
 
 -- that, by the result of the reading
-abbrev pub ReadsLines : {S T : Type 0} → Result T RunEnd → Says S → S → PortOutcome → Option (List ℕ) → Option (List ℕ) → S → Type 0
-ReadsLines (Ok done) says start o left_before left_after state = HoldsLines says start o.spent left_before left_after state
-ReadsLines (Err run_end) says start o left_before left_after state = HaltsLines says start o left_before left_after run_end
+abbrev pub ReadsLines : {S T : Type 0} → Result T RunEnd → Says S → S → PortOutcome → Option (List ℕ) → Option (List ℕ)
+    → S → Type 0
+ReadsLines (Ok done) says start o left_before left_after state =
+    HoldsLines says start o.spent left_before left_after state
+ReadsLines (Err run_end) says start o left_before left_after state =
+    HaltsLines says start o left_before left_after run_end

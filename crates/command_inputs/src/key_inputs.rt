@@ -4,7 +4,8 @@ ghost use Rattle.std.specs.declared.option.Option.{Option};
 ghost use Rattle.std.specs.Io.KnownBytes.{prepend_known};
 ghost use Rattle.mav_ports.specs.Gets.{IsSpent};
 ghost use Rattle.run_status.specs.Seen.{halted_over, input_of};
-ghost use Rattle.command_inputs.specs.KeyInputs.{spec_by, key_spec, given_key_spec, most_key_bytes, HoldsKey, HoldsGivenKey, TookAtMost};
+ghost use Rattle.command_inputs.specs.KeyInputs.{spec_by, key_spec, given_key_spec, most_key_bytes, HoldsKey};
+ghost use Rattle.command_inputs.specs.KeyInputs.{HoldsGivenKey, TookAtMost};
 
 use crate::key_texts::{key_of, key_or_default};
 use mav_ports::{Got, Source};

@@ -1,4 +1,5 @@
--- What is built of the commands and their options: all of them. A command or an option that is to come is left out here.
+-- What is built of the commands and their options: all of them. A command or an option that is to come is left out
+-- here.
 use Rattle.std.specs.Prelude.{Bool, true}
 use Rattle.command_line.specs.declared.commands.Command.{Command}
 use Rattle.command_line.specs.declared.commands.OptionName.{OptionName}

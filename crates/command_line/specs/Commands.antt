@@ -1,9 +1,11 @@
 -- The commands of the program and their options, in tables.
 use Rattle.std.specs.Prelude.{ℕ, Bool, true, false, if◌then◌else◌, List, [], ◌∷◌, codes}
 use Rattle.command_line.specs.declared.commands.Command.{Command}
-use Rattle.command_line.specs.declared.commands.Command.TheVariants.{Fleet, Dialect, Decode, Route, Drone, Station, Make, LogShow, LogFilter, LogMake, Fence}
+use Rattle.command_line.specs.declared.commands.Command.TheVariants.{Fleet, Dialect, Decode, Route, Drone, Station}
+use Rattle.command_line.specs.declared.commands.Command.TheVariants.{Make, LogShow, LogFilter, LogMake, Fence}
 use Rattle.command_line.specs.declared.commands.OptionName.{OptionName}
-use Rattle.command_line.specs.declared.commands.OptionName.TheVariants.{Frames, Key, Defs, One, Turns, Ticks, File, Store}
+use Rattle.command_line.specs.declared.commands.OptionName.TheVariants.{Frames, Key, Defs, One, Turns, Ticks, File}
+use Rattle.command_line.specs.declared.commands.OptionName.TheVariants.{Store}
 
 -- the word of a command, the second one of those on logs
 abbrev pub command_word : Command → List ℕ
@@ -28,7 +30,8 @@ is_on_logs _ = false
 
 -- the words with which its lines begin
 abbrev pub command_words : Command → List (List ℕ)
-command_words command = if is_on_logs command then codes "log" ∷ command_word command ∷ [] else command_word command ∷ []
+command_words command = if is_on_logs command then codes "log" ∷ command_word command ∷ []
+    else command_word command ∷ []
 
 -- the word of an option
 abbrev pub option_word : OptionName → List ℕ

@@ -1,11 +1,14 @@
 -- What the options and plain words of each command are, as a user may write them.
-use Rattle.std.specs.Prelude.{◌≡◌, ◌≢◌, ◌≤◌, ◌+◌, ◌&&◌, ℕ, Bool, true, false, not, if◌then◌else◌, List, [], ◌∷◌, length, drop, IsTrue, codes, count_by, All}
+use Rattle.std.specs.Prelude.{◌≡◌, ◌≢◌, ◌≤◌, ◌+◌, ◌&&◌, ℕ, Bool, true, false, not, if◌then◌else◌, List, [], ◌∷◌}
+use Rattle.std.specs.Prelude.{length, drop, IsTrue, codes, count_by, All}
 use Rattle.std.specs.List.{list_any}
 use Rattle.std.specs.Str.{bytes_eq}
 use Rattle.command_line.specs.declared.commands.Command.{Command}
-use Rattle.command_line.specs.declared.commands.Command.TheVariants.{Fleet, Dialect, Decode, Route, Drone, Station, Make, LogShow, LogFilter, LogMake, Fence}
+use Rattle.command_line.specs.declared.commands.Command.TheVariants.{Fleet, Dialect, Decode, Route, Drone, Station}
+use Rattle.command_line.specs.declared.commands.Command.TheVariants.{Make, LogShow, LogFilter, LogMake, Fence}
 use Rattle.command_line.specs.declared.commands.OptionName.{OptionName}
-use Rattle.command_line.specs.declared.commands.OptionName.TheVariants.{Frames, Key, Defs, One, Turns, Ticks, File, Store}
+use Rattle.command_line.specs.declared.commands.OptionName.TheVariants.{Frames, Key, Defs, One, Turns, Ticks, File}
+use Rattle.command_line.specs.declared.commands.OptionName.TheVariants.{Store}
 use Rattle.command_line.specs.Commands.{option_word, has_option, needs_key}
 use Rattle.command_line.specs.Numbers.{IsNumber}
 use Rattle.command_line.specs.Ports.{IsRouterPort}
@@ -92,7 +95,8 @@ has_number_first _ = false
 
 -- the plain words that name files
 abbrev pub file_words : Command → List (List ℕ) → List (List ℕ)
-file_words command plain = if reads_file command then (if has_number_first command then drop 1 plain else plain) else []
+file_words command plain = if reads_file command then (if has_number_first command then drop 1 plain else plain)
+    else []
 
 -- how many files of the line are standard input
 abbrev pub stdin_files : Command → List Given → List (List ℕ) → ℕ

@@ -1,12 +1,15 @@
 -- A command line as the program holds it.
-use Rattle.std.specs.Prelude.{◌≡◌, ◌≤◌, ◌&&◌, ◌||◌, not, nat_le, ℕ, Bool, true, false, List, [], ◌∷◌, length, map, Option, Some, None, is_some, String, string_bytes}
+use Rattle.std.specs.Prelude.{◌≡◌, ◌≤◌, ◌&&◌, ◌||◌, not, nat_le, ℕ, Bool, true, false, List, [], ◌∷◌, length, map}
+use Rattle.std.specs.Prelude.{Option, Some, None, is_some, String, string_bytes}
 use Rattle.std.specs.Fmt.{decimal}
 use Rattle.std.specs.List.{list_all}
 use Rattle.std.specs.declared.alloc.Global.{Global}
 use Rattle.command_line.specs.declared.commands.Command.{Command}
-use Rattle.command_line.specs.declared.commands.Command.TheVariants.{Fleet, Dialect, Decode, Route, Drone, Station, Make, LogShow, LogFilter, LogMake, Fence}
+use Rattle.command_line.specs.declared.commands.Command.TheVariants.{Fleet, Dialect, Decode, Route, Drone, Station}
+use Rattle.command_line.specs.declared.commands.Command.TheVariants.{Make, LogShow, LogFilter, LogMake, Fence}
 use Rattle.command_line.specs.declared.commands.OptionName.{OptionName}
-use Rattle.command_line.specs.declared.commands.OptionName.TheVariants.{Frames, Key, Defs, One, Turns, Ticks, File, Store}
+use Rattle.command_line.specs.declared.commands.OptionName.TheVariants.{Frames, Key, Defs, One, Turns, Ticks, File}
+use Rattle.command_line.specs.declared.commands.OptionName.TheVariants.{Store}
 use Rattle.command_line.specs.declared.pieces.Place.{Place}
 use Rattle.command_line.specs.declared.lines.Setting.{Setting}
 use Rattle.command_line.specs.declared.lines.Line.{Line}
@@ -27,7 +30,11 @@ abbrev pub given_of : Setting → Given
 given_of s = record { name = s.name; value = string_bytes s.value }
 
 abbrev pub asked_by : Line → Asked
-asked_by line = record { command = line.command; settings = map given_of line.settings.items; plain = map string_bytes line.words.items }
+asked_by line = record {
+  command = line.command;
+  settings = map given_of line.settings.items;
+  plain = map string_bytes line.words.items;
+}
 
 abbrev pub parts_of : List Setting → List (String Global) → Parts
 parts_of settings words = record { settings = map given_of settings; plain = map string_bytes words }
@@ -94,7 +101,8 @@ plain_now Fence file_given plain = is_one_file plain
 abbrev pub fits_now : Command → List Given → List (List ℕ) → Bool
 fits_now command settings plain =
     is_built command && (list_all (taken_now command) settings && (all_differ settings
-    && (has_needed command settings && (plain_now command (has_given File settings) plain && nat_le (stdin_files command settings plain) 1))))
+    && (has_needed command settings && (plain_now command (has_given File settings) plain
+    && nat_le (stdin_files command settings plain) 1))))
 
 -- a number of this range, and a file
 pub record NumberFirst (most : ℕ) (plain : List (List ℕ)) (number : ℕ) : Type 0 where

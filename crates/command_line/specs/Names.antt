@@ -19,7 +19,8 @@ first_word (word ∷ words) = Some word
 
 -- the file that is read after the others: the plain word FILE, or the file of an operation
 abbrev pub main_file : Asked → Option (List ℕ)
-main_file asked = if reads_file asked.command then first_word (file_words asked.command asked.plain) else value_given File asked.settings
+main_file asked = if reads_file asked.command then first_word (file_words asked.command asked.plain)
+    else value_given File asked.settings
 
 -- the words PORT
 abbrev pub port_words : Command → List (List ℕ) → List (List ℕ)

@@ -1,5 +1,6 @@
 -- The words of `drone` and `station` as the program holds them.
-use Rattle.std.specs.Prelude.{◌≡◌, ◌≤◌, ◌&&◌, not, if◌then◌else◌, ℕ, Bool, true, false, List, [], ◌∷◌, Option, Some, None, is_some}
+use Rattle.std.specs.Prelude.{◌≡◌, ◌≤◌, ◌&&◌, not, if◌then◌else◌, ℕ, Bool, true, false, List, [], ◌∷◌, Option, Some}
+use Rattle.std.specs.Prelude.{None, is_some}
 use Rattle.std.specs.Fmt.{decimal}
 use Rattle.command_line.specs.declared.commands.Command.{Command}
 use Rattle.command_line.specs.declared.commands.Command.TheVariants.{Drone, Station}
@@ -28,7 +29,8 @@ task_of file_given (Some component) (Some drone) (Some operation) =
     then Some (record { component = component; drone = drone; operation = operation }) else None
 
 abbrev pub task_in : Bool → (comp drone : List ℕ) → List (List ℕ) → Option Task
-task_in file_given comp drone words = task_of file_given (number_in 1 255 comp) (number_in 1 255 drone) (operation_in words)
+task_in file_given comp drone words = task_of file_given (number_in 1 255 comp) (number_in 1 255 drone)
+    (operation_in words)
 
 -- SYS PORT
 abbrev pub is_drone : List (List ℕ) → Bool

@@ -1,5 +1,6 @@
 -- How the words of an operation are read, and what an operation that was read says.
-use Rattle.std.specs.Prelude.{◌≡◌, ◌≤◌, ◌-◌, ◌&&◌, ◌==◌, nat_le, if◌then◌else◌, ℕ, Bool, true, false, List, [], ◌∷◌, ◌++◌, length, replicate, Option, Some, None, codes}
+use Rattle.std.specs.Prelude.{◌≡◌, ◌≤◌, ◌-◌, ◌&&◌, ◌==◌, nat_le, if◌then◌else◌, ℕ, Bool, true, false, List, [], ◌∷◌}
+use Rattle.std.specs.Prelude.{◌++◌, length, replicate, Option, Some, None, codes}
 use Rattle.std.specs.Option.{option_map}
 use Rattle.std.specs.List.{find, list_all}
 use Rattle.std.specs.Int.{to_be_bytes, w32}
@@ -9,7 +10,9 @@ use Rattle.std.specs.Str.Parse.{digits_value}
 use Rattle.command_line.specs.declared.operations.PlanWord.{PlanWord}
 use Rattle.command_line.specs.declared.operations.PlanWord.TheVariants.{Mission, Fence, Rally}
 use Rattle.command_line.specs.declared.operations.Operation.{Operation}
-use Rattle.command_line.specs.declared.operations.Operation.TheVariants.{Upload, Get, Clear, Command, ParamList, ParamRead, ParamSet, FileList, FileGet, FilePut, FileRemove}
+use Rattle.command_line.specs.declared.operations.Operation.TheVariants.{Upload, Get, Clear, Command, ParamList}
+use Rattle.command_line.specs.declared.operations.Operation.TheVariants.{ParamRead, ParamSet, FileList, FileGet}
+use Rattle.command_line.specs.declared.operations.Operation.TheVariants.{FilePut, FileRemove}
 use Rattle.command_line.specs.Numbers.{number_in, is_digit, is_visible, IsWire, IsParameter}
 
 -- the word of a kind of plan
@@ -82,7 +85,8 @@ two_words name word =
 abbrev pub three_words : (name first second : List ℕ) → Option Operation
 three_words name first second =
     if bytes_eq name (codes "command") then order_of (number_in 0 65535 first) (wire_in second)
-    else if bytes_eq name (codes "param") && bytes_eq first (codes "read") then option_map ParamRead (parameter_in second)
+    else if bytes_eq name (codes "param") && bytes_eq first (codes "read")
+    then option_map ParamRead (parameter_in second)
     else if bytes_eq name (codes "file") then file_named first second
     else None
 

@@ -1,11 +1,14 @@
 -- How words are read from left to right: what a word is by itself, and what it is after those before it.
-use Rattle.std.specs.Prelude.{◌==◌, nat_lt, ℕ, Bool, if◌then◌else◌, List, [], ◌∷◌, ◌++◌, length, Option, Some, None, codes}
+use Rattle.std.specs.Prelude.{◌==◌, nat_lt, ℕ, Bool, if◌then◌else◌, List, [], ◌∷◌, ◌++◌, length, Option, Some, None}
+use Rattle.std.specs.Prelude.{codes}
 use Rattle.std.specs.List.{find, before_first, after_first, position_or_len}
 use Rattle.std.specs.Str.{bytes_eq}
 use Rattle.command_line.specs.declared.commands.Command.{Command}
-use Rattle.command_line.specs.declared.commands.Command.TheVariants.{Fleet, Dialect, Decode, Route, Drone, Station, Make, LogShow, LogFilter, LogMake, Fence}
+use Rattle.command_line.specs.declared.commands.Command.TheVariants.{Fleet, Dialect, Decode, Route, Drone, Station}
+use Rattle.command_line.specs.declared.commands.Command.TheVariants.{Make, LogShow, LogFilter, LogMake, Fence}
 use Rattle.command_line.specs.declared.commands.OptionName.{OptionName}
-use Rattle.command_line.specs.declared.commands.OptionName.TheVariants.{Frames, Key, Defs, One, Turns, Ticks, File, Store}
+use Rattle.command_line.specs.declared.commands.OptionName.TheVariants.{Frames, Key, Defs, One, Turns, Ticks, File}
+use Rattle.command_line.specs.declared.commands.OptionName.TheVariants.{Store}
 use Rattle.command_line.specs.declared.pieces.Sort.{Sort}
 use Rattle.command_line.specs.declared.pieces.Sort.TheVariants.{Plain, Dashes, Alone, Joined, Apart, Unknown}
 use Rattle.command_line.specs.declared.pieces.Place.{Place}
@@ -63,7 +66,8 @@ joined_sort None = Unknown
 joined_sort (Some name) = if has_value name then Joined name else Unknown
 
 abbrev pub option_sort : List ℕ → Sort
-option_sort word = if has_equals word then joined_sort (option_named (before_first is_equals word)) else alone_sort (option_named word)
+option_sort word = if has_equals word then joined_sort (option_named (before_first is_equals word))
+    else alone_sort (option_named word)
 
 abbrev pub sort_of : List ℕ → Sort
 sort_of word = if is_dashed word then (if bytes_eq word (codes "--") then Dashes else option_sort word) else Plain
@@ -79,7 +83,10 @@ pub record Parts : Type 0 where
 
 abbrev pub given : OptionName → List ℕ → Option Parts → Option Parts
 given name value None = None
-given name value (Some p) = Some (record { settings = (record { name = name; value = value }) ∷ p.settings; plain = p.plain })
+given name value (Some p) = Some (record {
+  settings = (record { name = name; value = value }) ∷ p.settings;
+  plain = p.plain;
+})
 
 abbrev pub plainly : List ℕ → Option Parts → Option Parts
 plainly word None = None

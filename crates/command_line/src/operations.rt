@@ -3,8 +3,10 @@ ghost use Rattle.std.specs.Prelude.{◌≡◌, ◌≤◌, ◌++◌, map, length,
 ghost use Rattle.std.specs.List.{list_all};
 ghost use Rattle.command_line.specs.Numbers.{number_in, is_digit, is_visible};
 ghost use Rattle.command_line.specs.OperationTexts.{plan_word, plan_named, cleared_named, is_wire, wire_in};
-ghost use Rattle.command_line.specs.OperationTexts.{padded, is_parameter, parameter_in, order_of, setting_of, file_named};
-ghost use Rattle.command_line.specs.OperationTexts.{two_words, three_words, five_words, operation_in, needs_file, is_on_files};
+ghost use Rattle.command_line.specs.OperationTexts.{padded, is_parameter, parameter_in, order_of, setting_of};
+ghost use Rattle.command_line.specs.OperationTexts.{file_named};
+ghost use Rattle.command_line.specs.OperationTexts.{two_words, three_words, five_words, operation_in, needs_file};
+ghost use Rattle.command_line.specs.OperationTexts.{is_on_files};
 
 use crate::numbers::number;
 use field_layout::Label;

@@ -2,7 +2,8 @@
 ghost use Rattle.std.specs.Prelude.{◌≡◌, Some, None, map, string_bytes};
 ghost use Rattle.std.specs.Option.{MatchOption};
 ghost use Rattle.command_line.specs.Grammar.{is_dashed};
-ghost use Rattle.command_line.specs.Pieces.{named_in, single_commands, log_commands, begun, begun_log, option_named, alone_sort, joined_sort};
+ghost use Rattle.command_line.specs.Pieces.{named_in, single_commands, log_commands, begun, begun_log, option_named};
+ghost use Rattle.command_line.specs.Pieces.{alone_sort, joined_sort};
 ghost use Rattle.command_line.specs.Pieces.{option_sort, sort_of, joined_value};
 
 use crate::commands::{COMMANDS, Command, LOG_COMMANDS, OPTION_NAMES, OptionName};
@@ -52,7 +53,8 @@ fn log_command(word: &str) -> Option<Command>
 // The command on logs with which the words after `log` begin, and the words after it.
 fn begun_log(words: &[String]) -> Option<(Command, &[String])>
     ensures { MatchOption result (begun_log (map string_bytes words.now) ≡ None)
-        (λ found. begun_log (map string_bytes words.now) ≡ Some (record { command = found.0; rest = map string_bytes found.1.now })) }
+        (λ found. begun_log (map string_bytes words.now)
+        ≡ Some (record { command = found.0; rest = map string_bytes found.1.now })) }
 {
     let [word, rest @ ..] = words else {
         return None;
@@ -66,7 +68,8 @@ fn begun_log(words: &[String]) -> Option<(Command, &[String])>
 /// The command with which words begin, and the words after it.
 pub(crate) fn begun(words: &[String]) -> Option<(Command, &[String])>
     ensures { MatchOption result (begun (map string_bytes words.now) ≡ None)
-        (λ found. begun (map string_bytes words.now) ≡ Some (record { command = found.0; rest = map string_bytes found.1.now })) }
+        (λ found. begun (map string_bytes words.now)
+        ≡ Some (record { command = found.0; rest = map string_bytes found.1.now })) }
 {
     let [word, rest @ ..] = words else {
         return None;

@@ -1,11 +1,14 @@
 // The ports of a line.
-ghost use Rattle.std.specs.Prelude.{◌≡◌, ◌∷◌, ◌++◌, ℕ, Bool, List, true, false, map, string_bytes, is_some, None, IfOk, IfSome};
+ghost use Rattle.std.specs.Prelude.{◌≡◌, ◌∷◌, ◌++◌, ℕ, Bool, List, true, false, map, string_bytes, is_some, None};
+ghost use Rattle.std.specs.Prelude.{IfOk, IfSome};
 ghost use Rattle.std.specs.List.{list_all, list_any};
 ghost use Rattle.std.specs.Option.{MatchOption};
 ghost use Rattle.command_line.specs.Numbers.{number_in};
 ghost use Rattle.command_line.specs.Ports.{is_colon, kind_word, files_word, open_word};
-ghost use Rattle.command_line.specs.PortTexts.{IsRead, has_colon, before_colon, after_colon, is_part, kind_named, files_named};
-ghost use Rattle.command_line.specs.PortTexts.{is_end, is_rest, is_port, is_marked, is_router_port, target_text, port_text};
+ghost use Rattle.command_line.specs.PortTexts.{IsRead, has_colon, before_colon, after_colon, is_part, kind_named};
+ghost use Rattle.command_line.specs.PortTexts.{files_named};
+ghost use Rattle.command_line.specs.PortTexts.{is_end, is_rest, is_port, is_marked, is_router_port, target_text};
+ghost use Rattle.command_line.specs.PortTexts.{port_text};
 
 use crate::forms::is_some_text;
 use crate::numbers::number;

@@ -1,5 +1,6 @@
 // Words are read from left to right.
-ghost use Rattle.std.specs.Prelude.{◌≡◌, [], ◌∷◌, ◌++◌, List, ℕ, Some, None, OnOk, IfOk, IsErrOf, map, is_some, string_bytes};
+ghost use Rattle.std.specs.Prelude.{◌≡◌, [], ◌∷◌, ◌++◌, List, ℕ, Some, None, OnOk, IfOk, IsErrOf, map, is_some};
+ghost use Rattle.std.specs.Prelude.{string_bytes};
 ghost use Rattle.command_line.specs.Built.{built};
 ghost use Rattle.command_line.specs.Grammar.{Asks, AskNothing};
 ghost use Rattle.command_line.specs.Lines.{given_of, asked_by, parts_of, with_rest, LineSays, LineNodeSays};
@@ -116,7 +117,8 @@ impl Reader {
         ensures taken { OnOk result (with_rest self.new.place self.new.settings.items self.new.words.items []
             ≡ with_rest self.old.place self.old.settings.items self.old.words.items (map string_bytes words.now)) }
         ensures refused { IsErrOf result WantedFault.Usage
-            → with_rest self.old.place self.old.settings.items self.old.words.items (map string_bytes words.now) ≡ None }
+            → with_rest self.old.place self.old.settings.items self.old.words.items (map string_bytes words.now)
+            ≡ None }
     {
         for word in words {
             self.take(word.as_str())?;

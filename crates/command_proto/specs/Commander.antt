@@ -1,12 +1,14 @@
--- The station's side of the command protocol: one command at a time, given again until it is acknowledged (MAVLink guide,
--- Command Protocol).
-use Rattle.std.specs.Prelude.{ℕ, ◌+◌, ◌==◌, Bool, if◌then◌else◌, ◌&&◌, ◌||◌, nat_lt, min, slice_index, Option, Some, None}
+-- The station's side of the command protocol: one command at a time, given again until it is acknowledged (MAVLink
+-- guide, Command Protocol).
+use Rattle.std.specs.Prelude.{ℕ, ◌+◌, ◌==◌, Bool, if◌then◌else◌, ◌&&◌, ◌||◌, nat_lt, min, slice_index, Option, Some}
+use Rattle.std.specs.Prelude.{None}
 use Rattle.mav_names.specs.declared.names.Name.{Name}
 use Rattle.mav_names.specs.declared.names.Stream.{Stream}
 use Rattle.mav_names.specs.Addresses.{same_stream, same_name, everyone}
 use Rattle.mav_messages.specs.declared.commands.CommandAck.{CommandAck}
 use Rattle.mav_messages.specs.declared.messages.Message.{Message}
-use Rattle.mav_messages.specs.declared.messages.Message.TheVariants.{CommandLong as Commands, CommandAck as Acknowledges}
+use Rattle.mav_messages.specs.declared.messages.Message.TheVariants.{CommandLong as Commands}
+use Rattle.mav_messages.specs.declared.messages.Message.TheVariants.{CommandAck as Acknowledges}
 pub use Rattle.command_proto.specs.declared.commands.Issue.{Issue}
 use Rattle.command_proto.specs.Executor.{Command}
 
@@ -69,7 +71,8 @@ open_command c = number_in c.issue
 abbrev pub waits_on : CommanderState → CommanderStep
 waits_on c = record { commander = c; answer = None; end = None }
 
--- an acknowledgement counts from the drone's stream, for the command that is open, and for this station or for everyone
+-- an acknowledgement counts from the drone's stream, for the command that is open, and for this station or for
+-- everyone
 abbrev pub counts : Name → Issue → Stream → CommandAck → Bool
 counts me i from m =
     same_stream i.drone from && ((m.command == i.command.number)
@@ -98,7 +101,11 @@ abbrev pub issue_ticks : CommanderState → Option Issue → CommanderStep
 issue_ticks c None = waits_on c
 issue_ticks c (Some i) =
     if nat_lt (i.idle + 1) idle_limit
-    then record { commander = record c { issue = Some (given_again i) }; answer = Some (command_message (given_again i)); end = None }
+    then record {
+      commander = record c { issue = Some (given_again i) };
+      answer = Some (command_message (given_again i));
+      end = None;
+    }
     else record { commander = record c { issue = None }; answer = None; end = Some No_answer }
 
 abbrev pub commander_tick : CommanderState → CommanderStep

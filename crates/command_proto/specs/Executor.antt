@@ -1,6 +1,7 @@
--- The drone's side of the command protocol: what it does at a COMMAND_LONG of a stream (MAVLink guide, Command Protocol).
--- Which commands it knows, and what it denies, is this project's profile.
-use Rattle.std.specs.Prelude.{ℕ, ◌==◌, Bool, false, if◌then◌else◌, ◌&&◌, not, nat_lt, List, [], ◌∷◌, length, pos, Option, Some, None}
+-- The drone's side of the command protocol: what it does at a COMMAND_LONG of a stream (MAVLink guide, Command
+-- Protocol). Which commands it knows, and what it denies, is this project's profile.
+use Rattle.std.specs.Prelude.{ℕ, ◌==◌, Bool, false, if◌then◌else◌, ◌&&◌, not, nat_lt, List, [], ◌∷◌, length, pos}
+use Rattle.std.specs.Prelude.{Option, Some, None}
 use Rattle.std.specs.Str.{bytes_eq}
 use Rattle.mav_names.specs.declared.names.Name.{Name}
 use Rattle.mav_names.specs.declared.names.Stream.{Stream}
@@ -9,7 +10,8 @@ use Rattle.plan_items.specs.declared.actions.Action.{Action}
 use Rattle.plan_items.specs.declared.actions.Action.TheVariants.{Arm, Disarm, Start, Return}
 use Rattle.mav_messages.specs.declared.commands.CommandLong.{CommandLong}
 use Rattle.mav_messages.specs.declared.messages.Message.{Message}
-use Rattle.mav_messages.specs.declared.messages.Message.TheVariants.{CommandLong as Commands, CommandAck as Acknowledges}
+use Rattle.mav_messages.specs.declared.messages.Message.TheVariants.{CommandLong as Commands}
+use Rattle.mav_messages.specs.declared.messages.Message.TheVariants.{CommandAck as Acknowledges}
 pub use Rattle.command_proto.specs.declared.commands.Command.{Command}
 pub use Rattle.command_proto.specs.declared.commands.LastCommand.{LastCommand}
 pub use Rattle.command_proto.specs.declared.verdicts.Verdict.{Verdict}
@@ -22,8 +24,8 @@ pub record ExecutorState : Type 0 where
 abbrev pub new_executor : Name → ExecutorState
 new_executor me = record { me = me; last = [] }
 
--- what it does at a message: the drone's action, if the command has one; whether the command was done, or the result of
--- the same command given again; and the acknowledgement, if the message is a command for this node
+-- what it does at a message: the drone's action, if the command has one; whether the command was done, or the result
+-- of the same command given again; and the acknowledgement, if the message is a command for this node
 pub record ExecutorStep : Type 0 where
   pub executor : ExecutorState
   pub answer : Option Message
@@ -99,7 +101,10 @@ has_no_room (Some l) last = false
 -- the command is done, and its result is kept
 abbrev pub does : ExecutorState → Stream → CommandLong → Verdict → ExecutorStep
 does e from m v = record {
-  executor = record e { last = with_last e.last (record { stream = from; command = command_in m; result = v.result }) };
+  executor = record e {
+    last = with_last e.last
+        (record { stream = from; command = command_in m; result = v.result });
+  };
   answer = Some (acknowledges from m.command v.result);
   action = v.action;
   done = Some (command_in m);
@@ -134,5 +139,6 @@ command_comes e from m ready =
 -- a message of a stream
 abbrev pub executor_step : ExecutorState → Stream → Message → Ready → ExecutorStep
 executor_step e from (Commands m) ready =
-    if is_for_node e.me (record { sys = m.target_system; comp = m.target_component }) then command_comes e from m ready else ignores e
+    if is_for_node e.me (record { sys = m.target_system; comp = m.target_component }) then command_comes e from m ready
+    else ignores e
 executor_step e from _ ready = ignores e

@@ -1,6 +1,7 @@
 -- What the laws of this crate speak of: the ranges of what both sides keep and send (MAVLink common messages,
 -- COMMAND_LONG and COMMAND_ACK), and which commands were done in a whole run.
-use Rattle.std.specs.Prelude.{◌≡◌, ◌<◌, ◌≤◌, ◌^◌, if◌then◌else◌, List, [], ◌∷◌, map, length, All, Option, Some, None, IfSome}
+use Rattle.std.specs.Prelude.{◌≡◌, ◌<◌, ◌≤◌, ◌^◌, if◌then◌else◌, List, [], ◌∷◌, map, length, All, Option, Some, None}
+use Rattle.std.specs.Prelude.{IfSome}
 use Rattle.std.specs.List.{IsDistinct}
 use Rattle.field_layout.specs.Payload.{FitsLayout}
 use Rattle.mav_names.specs.declared.names.Name.{Name}
@@ -11,7 +12,8 @@ use Rattle.mav_messages.specs.declared.messages.Message.{Message}
 use Rattle.mav_messages.specs.Messages.{definition_of, values_of}
 use Rattle.mav_messages.specs.Plans.{plan_of}
 use Rattle.command_proto.specs.declared.executor.Ready.{Ready}
-use Rattle.command_proto.specs.Executor.{Command, LastCommand, ExecutorState, ExecutorStep, executor_step, most_streams}
+use Rattle.command_proto.specs.Executor.{Command, LastCommand, ExecutorState, ExecutorStep, executor_step}
+use Rattle.command_proto.specs.Executor.{most_streams}
 use Rattle.command_proto.specs.Commander.{Issue, CommanderState, CommanderStep, idle_limit}
 
 -- a message that fits its payload, and is none of the mission protocol
@@ -77,4 +79,5 @@ or_before (Some command) before = Some command
 abbrev pub latest_done : ExecutorState → List Received → Stream → Option Command → Option Command
 latest_done e [] s before = before
 latest_done e (r ∷ rs) s before =
-    latest_done (step_at e r).executor rs s (if same_stream r.from s then or_before (step_at e r).done before else before)
+    latest_done (step_at e r).executor rs s (if same_stream r.from s then or_before (step_at e r).done before
+    else before)

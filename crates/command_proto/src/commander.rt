@@ -1,7 +1,8 @@
 // The station's side of the command protocol.
 ghost use Rattle.std.specs.Prelude.{◌≡◌, Some, None, IfOk, IfErr, OnOk, OnErr};
 ghost use Rattle.std.specs.Option.{option_map};
-ghost use Rattle.command_proto.specs.Commander.{new_commander, commands, open_command, command_message, counts, commander_step, commander_tick, idle_limit, Result};
+ghost use Rattle.command_proto.specs.Commander.{new_commander, commands, open_command, command_message, counts};
+ghost use Rattle.command_proto.specs.Commander.{commander_step, commander_tick, idle_limit, Result};
 ghost use Rattle.command_proto.specs.Answers.{given_in, end_in, ticks_in};
 
 use crate::commands::{Command, Issue};
@@ -80,8 +81,10 @@ impl Commander {
         command: u16,
         p: [u32; 7],
     ) -> Result<Message, CommandBusy>
-        ensures ok { OnOk result (self.new ≡ (commands self.old drone (record { number = command; params = p })).commander) }
-        ensures message { IfOk result (λ m. Some m ≡ (commands self.old drone (record { number = command; params = p })).answer) }
+        ensures ok { OnOk result (self.new ≡ (commands self.old drone
+            (record { number = command; params = p })).commander) }
+        ensures message { IfOk result (λ m. Some m
+            ≡ (commands self.old drone (record { number = command; params = p })).answer) }
 
         // It is refused exactly if a command is open.
         ensures accepted { OnOk result (open_command self.old ≡ None) }

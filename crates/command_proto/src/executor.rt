@@ -1,6 +1,7 @@
 // The drone's side of the command protocol.
 ghost use Rattle.std.specs.Prelude.{◌≡◌, Some, IfOk, IsFalse};
-ghost use Rattle.command_proto.specs.Executor.{new_executor, executor_step, command_comes, does, verdict_on, acknowledges, last_in, has_no_room};
+ghost use Rattle.command_proto.specs.Executor.{new_executor, executor_step, command_comes, does, verdict_on};
+ghost use Rattle.command_proto.specs.Executor.{acknowledges, last_in, has_no_room};
 ghost use Rattle.command_proto.specs.Answers.{message_in, action_in};
 
 use crate::NoMemory;

@@ -29,13 +29,15 @@ skips_of (Skipped byte why) = 1
 abbrev pub verdict_text : Option (List ℕ) → Packet → Option SignatureBlock → List ℕ
 verdict_text None packet block = []
 verdict_text (Some key) packet None = []
-verdict_text (Some key) packet (Some block) = if bytes_eq block.sig (signature_of key packet block.link block.stamp) then codes " good" else codes " bad"
+verdict_text (Some key) packet (Some block) = if bytes_eq block.sig (signature_of key packet block.link block.stamp)
+    then codes " good" else codes " bad"
 
--- `OFFSET NAME SYS.COMP #SEQ field=value ..`, of MAVLink 1 with ` v1` after the sequence number; a frame of a parse has
--- the id of a message
+-- `OFFSET NAME SYS.COMP #SEQ field=value ..`, of MAVLink 1 with ` v1` after the sequence number; a frame of a parse
+-- has the id of a message
 abbrev pub frame_line : Option Definition → Option (List ℕ) → ℕ → Packet → List ℕ
 frame_line None key offset packet = []
-frame_line (Some def) key offset packet = decimal offset ++ 32 ∷ frame_text def packet ++ (verdict_text key packet packet.block ++ 10 ∷ [])
+frame_line (Some def) key offset packet =
+    decimal offset ++ 32 ∷ frame_text def packet ++ (verdict_text key packet packet.block ++ 10 ∷ [])
 
 -- the line of a frame, or of a skipped byte
 abbrev pub event_line : DecodeContext → ℕ → Event → List ℕ

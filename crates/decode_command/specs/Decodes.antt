@@ -10,7 +10,8 @@ use Rattle.decode_command.specs.DecodeText.{event_lines, bytes_in, frames_in, sk
 
 -- a reader gave events, and holds the rest
 abbrev pub GaveEvents : List Event → Held → Held → Type 0
-GaveEvents events old new = (extras : List (ℕ × ℕ)) (old_too : Bool) (taken : List ℕ) (given : List Event) → Progress extras old_too taken given old → Progress extras old_too taken (given ++ events) new
+GaveEvents events old new = (extras : List (ℕ × ℕ)) (old_too : Bool) (taken : List ℕ) (given : List Event)
+    → Progress extras old_too taken given old → Progress extras old_too taken (given ++ events) new
 
 -- the messages and the key that are known, what is held of the stream, the offset of the next event, and the counts so
 -- far

@@ -6,8 +6,10 @@ use Rattle.decode_command.specs.Parsing.{final_events, incremental_events}
 
 -- whatever events are the final parse of the bytes, the function gives them
 abbrev pub FinalEvents : Type 0
-FinalEvents = (extras : List (ℕ × ℕ)) (bytes : List ℕ) (events : List Event) → Final extras true events bytes → final_events extras bytes ≡ events
+FinalEvents = (extras : List (ℕ × ℕ)) (bytes : List ℕ) (events : List Event) → Final extras true events bytes
+    → final_events extras bytes ≡ events
 
 -- and so for the incremental parse
 abbrev pub IncrementalEvents : Type 0
-IncrementalEvents = (extras : List (ℕ × ℕ)) (bytes left : List ℕ) (events : List Event) → Incremental extras true events left bytes → incremental_events extras bytes ≡ events
+IncrementalEvents = (extras : List (ℕ × ℕ)) (bytes left : List ℕ) (events : List Event)
+    → Incremental extras true events left bytes → incremental_events extras bytes ≡ events

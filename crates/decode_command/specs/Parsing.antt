@@ -19,7 +19,8 @@ events_at (More lacking) false byte after = []
 abbrev pub events_after : List (ℕ × ℕ) → Bool → ℕ → List ℕ → List Event
 events_after extras ended inside [] = []
 events_after extras ended (suc inside) (byte ∷ rest) = events_after extras ended inside rest
-events_after extras ended zero (byte ∷ rest) = events_at (look_of extras true (byte ∷ rest)) ended byte (λ inside. events_after extras ended inside rest)
+events_after extras ended zero (byte ∷ rest) = events_at (look_of extras true (byte ∷ rest)) ended byte
+    (λ inside. events_after extras ended inside rest)
 
 -- the events of the parse: of the final one if the input has ended, else of the incremental one
 abbrev pub parse_events : List (ℕ × ℕ) → Bool → List ℕ → List Event

@@ -1,5 +1,5 @@
-//! The command `decode`: every frame of a stream as a line of text, and every byte that is in none. Frames of MAVLink 2
-//! and of MAVLink 1 are read.
+//! The command `decode`: every frame of a stream as a line of text, and every byte that is in none. Frames of MAVLink
+//! 2 and of MAVLink 1 are read.
 //!
 //! A [`Teller`] makes a text of the bytes of an input as they come; [`run_teller`] reads the input in pieces of 64 KiB
 //! and writes what is told of a piece before more is read, in constant memory. [`decode_by`] runs the teller of

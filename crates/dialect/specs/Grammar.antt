@@ -1,5 +1,6 @@
 -- Which definitions a text holds, or its first fault.
-use Rattle.std.specs.Prelude.{ℕ, ◌==◌, ◌&&◌, not, nat_lt, is_some, Bool, if◌then◌else◌, List, [], ◌∷◌, ◌++◌, length, Option, Some, None, Ok, Err, option_map}
+use Rattle.std.specs.Prelude.{ℕ, ◌==◌, ◌&&◌, not, nat_lt, is_some, Bool, if◌then◌else◌, List, [], ◌∷◌, ◌++◌, length}
+use Rattle.std.specs.Prelude.{Option, Some, None, Ok, Err, option_map}
 use Rattle.std.specs.declared.result.Result.{Result}
 use Rattle.std.specs.List.{list_any, list_all, filter_map}
 use Rattle.std.specs.Option.{option_or}
@@ -11,7 +12,8 @@ use Rattle.field_layout.specs.declared.faults.LayoutFault.{LayoutFault}
 use Rattle.field_layout.specs.Definition.{Definition}
 use Rattle.field_layout.specs.Faults.{first_fault}
 use Rattle.dialect.specs.declared.faults.DialectFault.{DialectFault}
-use Rattle.dialect.specs.declared.faults.DialectFault.TheVariants.{NotJson, Shape, BadType, BadName, TwiceId, TwiceName, Layout, TooMany}
+use Rattle.dialect.specs.declared.faults.DialectFault.TheVariants.{NotJson, Shape, BadType, BadName, TwiceId}
+use Rattle.dialect.specs.declared.faults.DialectFault.TheVariants.{TwiceName, Layout, TooMany}
 use Rattle.dialect.specs.Types.{FieldType, field_type_of}
 use Rattle.dialect.specs.Names.{is_message_name, is_field_name}
 use Rattle.dialect.specs.Shape.{FieldText, MessageText, all_texts, message_in, messages_in}
@@ -22,7 +24,8 @@ max_messages = 512
 
 -- a field whose type is one of the list
 abbrev pub field_of : FieldText → Option Field
-field_of text = option_map (λ (ty : FieldType). record { ty = ty.0; len = ty.1; name = text.name }) (field_type_of text.ty)
+field_of text = option_map (λ (ty : FieldType). record { ty = ty.0; len = ty.1; name = text.name })
+    (field_type_of text.ty)
 
 -- the definition that a message encodes
 abbrev pub definition_of : MessageText → Definition
@@ -38,7 +41,8 @@ abbrev pub has_types : MessageText → Bool
 has_types text = list_all (λ (field : FieldText). is_some (field_type_of field.ty)) (all_texts text)
 
 abbrev pub has_names : MessageText → Bool
-has_names text = is_message_name text.name && list_all (λ (field : FieldText). is_field_name field.name) (all_texts text)
+has_names text = is_message_name text.name
+    && list_all (λ (field : FieldText). is_field_name field.name) (all_texts text)
 
 -- an earlier message has that id, or that name
 abbrev pub has_id : List Definition → ℕ → Bool
@@ -62,7 +66,8 @@ text_fault earlier text =
 
 -- or else that of its layout
 abbrev pub fault_behind : List Definition → MessageText → Option DialectFault
-fault_behind earlier text = option_or (text_fault earlier text) (layout_fault (length earlier) (first_fault (definition_of text)))
+fault_behind earlier text = option_or (text_fault earlier text)
+    (layout_fault (length earlier) (first_fault (definition_of text)))
 
 -- the definition of a message, whose shape is tested before all else
 abbrev pub faultless : Option DialectFault → Definition → Result Definition DialectFault
@@ -74,7 +79,8 @@ definition_behind earlier None = Err (Shape (Some (length earlier)))
 definition_behind earlier (Some text) = faultless (fault_behind earlier text) (definition_of text)
 
 -- the messages in order, after those that were read
-abbrev pub and_then : Result Definition DialectFault → (Definition → Result (List Definition) DialectFault) → Result (List Definition) DialectFault
+abbrev pub and_then : Result Definition DialectFault → (Definition → Result (List Definition) DialectFault)
+    → Result (List Definition) DialectFault
 and_then (Ok def) next = next def
 and_then (Err fault) next = Err fault
 
@@ -85,7 +91,8 @@ definitions_behind earlier (message ∷ rest) =
 
 abbrev pub of_messages : Option (List Data) → Result (List Definition) DialectFault
 of_messages None = Err (Shape None)
-of_messages (Some messages) = if nat_lt max_messages (length messages) then Err TooMany else definitions_behind [] messages
+of_messages (Some messages) = if nat_lt max_messages (length messages) then Err TooMany
+    else definitions_behind [] messages
 
 abbrev pub of_top : Option Data → Result (List Definition) DialectFault
 of_top None = Err NotJson

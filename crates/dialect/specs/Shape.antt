@@ -1,5 +1,6 @@
 -- The members that definitions have as JSON (RFC 8259). Other members are ignored.
-use Rattle.std.specs.Prelude.{ℕ, ◌^◌, nat_lt, if◌then◌else◌, List, [], ◌∷◌, ◌++◌, codes, Option, Some, None, option_map, option_and_then}
+use Rattle.std.specs.Prelude.{ℕ, ◌^◌, nat_lt, if◌then◌else◌, List, [], ◌∷◌, ◌++◌, codes, Option, Some, None}
+use Rattle.std.specs.Prelude.{option_map, option_and_then}
 use Rattle.serde_json.specs.Data.{Data, Items, no_items, item}
 use Rattle.serde_json.specs.Find.{get, as_str, as_array, as_number, as_u64}
 
@@ -69,7 +70,8 @@ optional_fields (Some d) = fields_of d
 abbrev pub extensions_in : Data → Option (List FieldText)
 extensions_in d = optional_fields (get (codes "extensions") d)
 
-abbrev pub message_text_of : Option ℕ → Option (List ℕ) → Option (List FieldText) → Option (List FieldText) → Option MessageText
+abbrev pub message_text_of : Option ℕ → Option (List ℕ) → Option (List FieldText) → Option (List FieldText)
+    → Option MessageText
 message_text_of (Some id) (Some name) (Some fields) (Some extensions) =
     Some (record { id = id; name = name; fields = fields; extensions = extensions })
 message_text_of _ _ _ _ = None

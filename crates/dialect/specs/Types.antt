@@ -1,10 +1,12 @@
 -- How definitions write the types of fields (MAVLink guide, XML Schema: field).
-use Rattle.std.specs.Prelude.{ℕ, ◌+◌, ◌*◌, ◌-◌, ◌==◌, ◌&&◌, not, nat_le, Bool, if◌then◌else◌, List, [], ◌∷◌, codes, fold, find, slice_index, Option, Some, None, option_map, option_and_then}
+use Rattle.std.specs.Prelude.{ℕ, ◌+◌, ◌*◌, ◌-◌, ◌==◌, ◌&&◌, not, nat_le, Bool, if◌then◌else◌, List, [], ◌∷◌, codes}
+use Rattle.std.specs.Prelude.{fold, find, slice_index, Option, Some, None, option_map, option_and_then}
 use Rattle.std.specs.List.{list_all, before_first, after_first}
 use Rattle.std.specs.Option.{option_or}
 use Rattle.std.specs.Str.{bytes_eq}
 use Rattle.field_layout.specs.declared.ty.Ty.{Ty}
-use Rattle.field_layout.specs.declared.ty.Ty.TheVariants.{I8, U8, Char, I16, U16, I32, U32, I64, U64, F32, F64, Version}
+use Rattle.field_layout.specs.declared.ty.Ty.TheVariants.{I8, U8, Char, I16, U16, I32, U32, I64, U64, F32, F64}
+use Rattle.field_layout.specs.declared.ty.Ty.TheVariants.{Version}
 
 -- the word of a type: its name, and for `uint8_t_mavlink_version` that word in full
 abbrev pub type_word : Ty → List ℕ

@@ -47,7 +47,8 @@ impl Model for Dialect {
 
     ghost view = { λ d. d.layouts };
 
-    ghost invariant = { λ d. (d.extras ≡ extras_of d.layouts) × (length d.low.items ≡ 1024) × AreIndices d.layouts d.low.items };
+    ghost invariant = { λ d. (d.extras ≡ extras_of d.layouts) × (length d.low.items ≡ 1024)
+        × AreIndices d.layouts d.low.items };
 }
 
 // The CRC_EXTRA of each message by its id.

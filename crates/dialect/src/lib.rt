@@ -1,7 +1,7 @@
 //! Dialects: the messages that a program knows, read from definitions as JSON or taken from the built-in profile.
 //!
-//! `Dialect::read` accepts exactly the grammar of docs/MANUAL.md and returns the first fault. A message is found by its
-//! id without a scan, or by its index. Nothing here reads a file or a packet.
+//! `Dialect::read` accepts exactly the grammar of docs/MANUAL.md and returns the first fault. A message is found by
+//! its id without a scan, or by its index. Nothing here reads a file or a packet.
 #![tactic(auto)]
 
 mod dialect;

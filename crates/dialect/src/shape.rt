@@ -42,7 +42,12 @@ impl<'a> Model for SpelledMessage<'a> {
 
     ghost Value = { MessageText };
 
-    ghost view = { λ m. record { id = m.id; name = m.name.now; fields = m.fields.items; extensions = m.extensions.items } };
+    ghost view = { λ m. record {
+      id = m.id;
+      name = m.name.now;
+      fields = m.fields.items;
+      extensions = m.extensions.items;
+    } };
 }
 
 // The string at a member.

@@ -16,7 +16,8 @@ pub record Told (spent : Type 0) (left_before left_after sent_before sent_after 
   pub sent : sent_after ≡ append_known sent_before (dialect_text defs)
 
 -- the definitions that an input holds were rejected for this reason, and nothing was written
-pub record Refused (reason : Reason) (spent : Type 0) (left_before left_after sent_before sent_after : Option (List ℕ)) : Type 0 where
+pub record Refused (reason : Reason) (spent : Type 0)
+    (left_before left_after sent_before sent_after : Option (List ℕ)) : Type 0 where
   pub taken : List ℕ
   pub took : left_before ≡ prepend_known taken left_after
   pub at_end : spent

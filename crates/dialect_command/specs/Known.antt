@@ -7,9 +7,10 @@ use Rattle.run_status.specs.Seen.{Input}
 use Rattle.dialect_command.specs.Reads.{Holds}
 use Rattle.dialect_command.specs.Spec.{definitions_spec}
 
--- definitions that are named are read: the run halts at them, nothing is written of them, and the main input isn't read; or it
--- goes on with them; without them the profile is used
-abbrev pub WithDefinitions : Bool → (CommandSpec → Input → Type 0) → (halted others : Type 0) → Input → (List Definition → Type 0) → Type 0
+-- definitions that are named are read: the run halts at them, nothing is written of them, and the main input isn't
+-- read; or it goes on with them; without them the profile is used
+abbrev pub WithDefinitions : Bool → (CommandSpec → Input → Type 0) → (halted others : Type 0) → Input
+    → (List Definition → Type 0) → Type 0
 WithDefinitions false runs halted others defs next = next profile_definitions
 WithDefinitions true runs halted others defs next =
     (runs definitions_spec defs × halted × others)

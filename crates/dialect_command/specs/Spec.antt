@@ -1,16 +1,20 @@
 -- What is done with the bytes of definitions, by `dialect` and by other commands, and what `dialect` writes without
 -- any.
-use Rattle.std.specs.Prelude.{ℕ, nat_lt, Bool, true, false, if◌then◌else◌, List, [], length, Option, Some, None, Ok, Err}
+use Rattle.std.specs.Prelude.{ℕ, nat_lt, Bool, true, false, if◌then◌else◌, List, [], length, Option, Some, None, Ok}
+use Rattle.std.specs.Prelude.{Err}
 use Rattle.std.specs.declared.result.Result.{Result}
 use Rattle.field_layout.specs.Definition.{Definition}
 use Rattle.dialect.specs.declared.faults.DialectFault.{DialectFault}
-use Rattle.dialect.specs.declared.faults.DialectFault.TheVariants.{NotJson, Shape, BadType, BadName, TwiceId, TwiceName, Layout, TooMany, NoMemory}
+use Rattle.dialect.specs.declared.faults.DialectFault.TheVariants.{NotJson, Shape, BadType, BadName, TwiceId}
+use Rattle.dialect.specs.declared.faults.DialectFault.TheVariants.{TwiceName, Layout, TooMany, NoMemory}
 use Rattle.dialect.specs.Grammar.{definitions_of}
 use Rattle.mav_profile.specs.Profile.{profile_definitions}
 use Rattle.mav_text.specs.LayoutText.{dialect_text}
 use Rattle.run_status.specs.declared.input_errors.Place.TheVariants.{Definitions}
 use Rattle.run_status.specs.declared.input_errors.Reason.{Reason}
-use Rattle.run_status.specs.declared.input_errors.Reason.TheVariants.{Json, Shape as IsShape, FieldType, Name, TwiceId as IsTwiceId, TwiceName as IsTwiceName, Layout as IsLayout, TooMany as AreTooMany}
+use Rattle.run_status.specs.declared.input_errors.Reason.TheVariants.{Json, Shape as IsShape, FieldType, Name}
+use Rattle.run_status.specs.declared.input_errors.Reason.TheVariants.{TwiceId as IsTwiceId, TwiceName as IsTwiceName}
+use Rattle.run_status.specs.declared.input_errors.Reason.TheVariants.{Layout as IsLayout, TooMany as AreTooMany}
 use Rattle.run_status.specs.declared.input_errors.Bound.TheVariants.{DefinitionBytes}
 use Rattle.run_status.specs.declared.input_errors.InputError.{InputError}
 use Rattle.run_status.specs.declared.input_errors.InputError.TheVariants.{Bad, AtLimit}
@@ -50,7 +54,8 @@ stop_at false bytes = None
 -- definitions are read, and this is written after them
 abbrev pub reading : (List ℕ → List ℕ) → CommandSpec
 reading closing = record {
-  stop = λ ended bytes. if nat_lt most_definition_bytes (length bytes) then Some (AtLimit DefinitionBytes) else stop_at ended bytes;
+  stop = λ ended bytes. if nat_lt most_definition_bytes (length bytes) then Some (AtLimit DefinitionBytes)
+      else stop_at ended bytes;
   report = λ ended bytes. [];
   closing = closing;
 }

@@ -2,8 +2,8 @@
 //!
 //! [`dialect`] writes those of the definitions that an input holds, [`profile`] those of the
 //! built-in profile; `specs/Spec.antt` says what stops them and what they write. The text of a
-//! halt isn't written here. [`run_dialect`] does one or the other for the words of a command line. [`read_definitions`]
-//! and [`known_messages`] serve each command that takes definitions.
+//! halt isn't written here. [`run_dialect`] does one or the other for the words of a command line.
+//! [`read_definitions`] and [`known_messages`] serve each command that takes definitions.
 #![tactic(auto)]
 
 mod commands;

@@ -1,5 +1,6 @@
 -- What the laws of this crate speak of.
-use Rattle.std.specs.Prelude.{ℕ, zero, suc, ℤ, ◌≤ℤ◌, ◌+ℤ◌, pos, ◌<◌, ◌^◌, ◌⊎◌, List, slice_get, Option, Some, None, IfSome, All, FitsSigned}
+use Rattle.std.specs.Prelude.{ℕ, zero, suc, ℤ, ◌≤ℤ◌, ◌+ℤ◌, pos, ◌<◌, ◌^◌, ◌⊎◌, List, slice_get, Option, Some, None}
+use Rattle.std.specs.Prelude.{IfSome, All, FitsSigned}
 use Rattle.std.specs.Int.{w32}
 use Rattle.plan_items.specs.declared.items.Item.{Item}
 use Rattle.drone_sim.specs.declared.courses.Course.TheVariants.{Disarmed, Resting, Flying, Returning}

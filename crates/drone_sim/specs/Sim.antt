@@ -1,7 +1,8 @@
 -- A simulated drone: what it does by commands, by a change of its mission, and in one tick (MAVLink guide, Mission
--- Protocol: Mission Items; MAVLink common messages, MAV_CMD). The guide leaves open how a simulated drone flies: that it
--- moves by whole numbers, a step in each tick, is this project's profile.
-use Rattle.std.specs.Prelude.{ℕ, ◌+◌, ◌-◌, ◌^◌, ◌==◌, nat_lt, min, max, Bool, true, false, ◌&&◌, ◌||◌, if◌then◌else◌, List, length, slice_get, Option, Some, None}
+-- Protocol: Mission Items; MAVLink common messages, MAV_CMD). The guide leaves open how a simulated drone flies: that
+-- it moves by whole numbers, a step in each tick, is this project's profile.
+use Rattle.std.specs.Prelude.{ℕ, ◌+◌, ◌-◌, ◌^◌, ◌==◌, nat_lt, min, max, Bool, true, false, ◌&&◌, ◌||◌, if◌then◌else◌}
+use Rattle.std.specs.Prelude.{List, length, slice_get, Option, Some, None}
 use Rattle.plan_items.specs.declared.actions.Action.{Action}
 use Rattle.plan_items.specs.declared.actions.Action.TheVariants.{Arm, Disarm, Start, Return}
 use Rattle.plan_items.specs.declared.items.Item.{Item}
@@ -87,8 +88,8 @@ one_more captures = min (captures + 1) (2 ^ 32 - 1)
 abbrev pub location_of : Item → Point
 location_of item = record { x = item.x; y = item.y }
 
--- where an item sends a drone: NAV_WAYPOINT, NAV_LAND and NAV_TAKEOFF to its location, NAV_RETURN_TO_LAUNCH to its home,
--- and any other nowhere
+-- where an item sends a drone: NAV_WAYPOINT, NAV_LAND and NAV_TAKEOFF to its location, NAV_RETURN_TO_LAUNCH to its
+-- home, and any other nowhere
 abbrev pub target_of : Point → Item → Option Point
 target_of home item =
     if goes_to_place item.command then Some (location_of item)

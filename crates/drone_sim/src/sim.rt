@@ -1,7 +1,8 @@
 // A simulated drone.
 ghost use Rattle.std.specs.Prelude.{◌≡◌, slice_get};
 ghost use Rattle.plan_items.specs.Plans.{items_of};
-ghost use Rattle.drone_sim.specs.Sim.{new_sim, armed as is_armed, acts, changes, news_of, stays, flies_to, captures_at, does_item, target_of as item_target, flies, returns, sim_tick};
+ghost use Rattle.drone_sim.specs.Sim.{new_sim, armed as is_armed, acts, changes, news_of, stays, flies_to};
+ghost use Rattle.drone_sim.specs.Sim.{captures_at, does_item, target_of as item_target, flies, returns, sim_tick};
 
 use crate::moves::{is_at, moved};
 use crate::targets::{beyond, target_of};
@@ -26,8 +27,8 @@ impl Model for Sim {
     ghost view = { λ s. record { home = s.home; position = s.position; course = s.course; captures = s.captures } };
 }
 
-/// What a tick brings: where the drone is after it, in units of 1e-7 degrees, the number of the item that was reached, and
-/// whether a picture was taken.
+/// What a tick brings: where the drone is after it, in units of 1e-7 degrees, the number of the item that was reached,
+/// and whether a picture was taken.
 #[derive(Clone, Copy)]
 pub struct SimNews {
     pub x: i32,
@@ -83,8 +84,8 @@ impl Sim {
         self.course = self.course.after(action);
     }
 
-    /// Its mission was installed or cleared: if it flies the mission, it stops where it is, and a later start begins at the
-    /// first item.
+    /// Its mission was installed or cleared: if it flies the mission, it stops where it is, and a later start begins
+    /// at the first item.
     pub fn changed(&mut self)
         ensures { self.new ≡ changes self.old }
     {
@@ -135,8 +136,10 @@ impl Sim {
     }
 
     fn do_item(&mut self, plan: &Plan, step: u32, number: u16, item: &Item) -> SimNews
-        ensures sim { self.new ≡ (does_item self.old (items_of plan.now) step number item.now (item_target self.old.home item.now)).sim }
-        ensures news { result ≡ news_of (does_item self.old (items_of plan.now) step number item.now (item_target self.old.home item.now)) }
+        ensures sim { self.new ≡ (does_item self.old (items_of plan.now) step number item.now
+            (item_target self.old.home item.now)).sim }
+        ensures news { result ≡ news_of (does_item self.old (items_of plan.now) step number item.now
+            (item_target self.old.home item.now)) }
     {
         match target_of(self.home, item) {
             Some(target) => self.fly_to(plan, step, number, item, target),
@@ -148,8 +151,10 @@ impl Sim {
     }
 
     fn fly(&mut self, plan: &Plan, step: u32, number: u16) -> SimNews
-        ensures sim { self.new ≡ (flies self.old (items_of plan.now) step number (slice_get (items_of plan.now) number)).sim }
-        ensures news { result ≡ news_of (flies self.old (items_of plan.now) step number (slice_get (items_of plan.now) number)) }
+        ensures sim { self.new ≡ (flies self.old (items_of plan.now) step number
+            (slice_get (items_of plan.now) number)).sim }
+        ensures news { result ≡ news_of (flies self.old (items_of plan.now) step number
+            (slice_get (items_of plan.now) number)) }
     {
         match plan.get(usize::from(number)) {
             Some(item) => self.do_item(plan, step, number, &item),
@@ -168,8 +173,8 @@ impl Sim {
         self.stay()
     }
 
-    /// One tick over a mission. Each coordinate goes towards its target by at most the step, in units of 1e-7 degrees; a
-    /// step of 0 acts as 1. A drone whose mission has no item of its number stays.
+    /// One tick over a mission. Each coordinate goes towards its target by at most the step, in units of 1e-7 degrees;
+    /// a step of 0 acts as 1. A drone whose mission has no item of its number stays.
     pub fn tick(&mut self, plan: &Plan, step: u32) -> SimNews
         ensures sim { self.new ≡ (sim_tick self.old (items_of plan.now) step).sim }
         ensures news { result ≡ news_of (sim_tick self.old (items_of plan.now) step) }

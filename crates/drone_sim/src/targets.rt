@@ -2,7 +2,8 @@
 ghost use Rattle.std.specs.Prelude.{◌≡◌, ◌<◌};
 ghost use Rattle.plan_items.specs.Plans.{items_of};
 ghost use Rattle.plan_items.specs.Validation.{goes_to_place};
-ghost use Rattle.drone_sim.specs.Sim.{target_of as item_target, ends_flight as command_ends, has_item as items_have, beyond as course_beyond};
+ghost use Rattle.drone_sim.specs.Sim.{target_of as item_target, ends_flight as command_ends, has_item as items_have};
+ghost use Rattle.drone_sim.specs.Sim.{beyond as course_beyond};
 
 use crate::{Course, Point};
 use plan_items::{Item, MavCommand, Plan};

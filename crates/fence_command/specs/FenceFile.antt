@@ -1,11 +1,13 @@
 -- What the lines of a file say of a fence, a mission and a flight.
-use Rattle.std.specs.Prelude.{ℕ, ◌==◌, Bool, true, false, not, if◌then◌else◌, List, [], ◌++◌, length, codes, pos, Option, Some, None, Ok, Err}
+use Rattle.std.specs.Prelude.{ℕ, ◌==◌, Bool, true, false, not, if◌then◌else◌, List, [], ◌++◌, length, codes, pos}
+use Rattle.std.specs.Prelude.{Option, Some, None, Ok, Err}
 use Rattle.std.specs.declared.result.Result.{Result}
 use Rattle.std.specs.Str.{bytes_eq}
 use Rattle.plan_items.specs.declared.items.Item.{Item}
 use Rattle.drone_sim.specs.declared.points.Point.{Point}
 use Rattle.scenario_lines.specs.declared.faults.Reason.{Reason}
-use Rattle.scenario_lines.specs.declared.faults.Reason.TheVariants.{Long, Word, Later, Count, Number, Node, Kind, Hex, Twice, Range, Draft, Clock}
+use Rattle.scenario_lines.specs.declared.faults.Reason.TheVariants.{Long, Word, Later, Count, Number, Node, Kind, Hex}
+use Rattle.scenario_lines.specs.declared.faults.Reason.TheVariants.{Twice, Range, Draft, Clock}
 use Rattle.scenario_lines.specs.Words.{words_of, word_at}
 use Rattle.scenario_lines.specs.Grammar.{line_of}
 use Rattle.scenario_lines.specs.Readings.{and_then, whole, signed}
@@ -13,8 +15,8 @@ use Rattle.scenario_lines.specs.Reasons.{item_reason_against}
 use Rattle.command_inputs.specs.Takers.{Says}
 use Rattle.command_inputs.specs.ItemFiles.{items_in}
 
--- where the flight starts, the most units of a tick, how many ticks it has, both lists of items, and whether item lines
--- join the fence
+-- where the flight starts, the most units of a tick, how many ticks it has, both lists of items, and whether item
+-- lines join the fence
 pub record FileState : Type 0 where
   pub home : Point
   pub step : ℕ
@@ -24,7 +26,14 @@ pub record FileState : Type 0 where
   pub to_fence : Bool
 
 abbrev pub empty_file : FileState
-empty_file = record { home = record { x = pos 0; y = pos 0 }; step = 1000; ticks = 0; fence = []; mission = []; to_fence = false }
+empty_file = record {
+  home = record { x = pos 0; y = pos 0 };
+  step = 1000;
+  ticks = 0;
+  fence = [];
+  mission = [];
+  to_fence = false;
+}
 
 -- the list that item lines join
 abbrev pub list_of : FileState → List Item
@@ -40,7 +49,8 @@ joined f items =
 abbrev pub home_says : FileState → List (List ℕ) → Result FileState Reason
 home_says f words =
     if not (length words == 3) then Err Count
-    else and_then (signed words 1) (λ x. and_then (signed words 2) (λ y. Ok (record f { home = record { x = x; y = y } })))
+    else and_then (signed words 1) (λ x. and_then (signed words 2)
+    (λ y. Ok (record f { home = record { x = x; y = y } })))
 
 -- `step N`
 abbrev pub step_says : FileState → List (List ℕ) → Result FileState Reason

@@ -1,5 +1,6 @@
 -- What is written of a file whose fence and mission are sound.
-use Rattle.std.specs.Prelude.{ℕ, ◌+◌, Bool, ◌&&◌, if◌then◌else◌, List, [], ◌∷◌, ◌++◌, length, count_by, codes, Option, Some, None, is_some}
+use Rattle.std.specs.Prelude.{ℕ, ◌+◌, Bool, ◌&&◌, if◌then◌else◌, List, [], ◌∷◌, ◌++◌, length, count_by, codes, Option}
+use Rattle.std.specs.Prelude.{Some, None, is_some}
 use Rattle.std.specs.Fmt.{decimal, signed_decimal}
 use Rattle.plan_items.specs.declared.items.Item.{Item}
 use Rattle.plan_items.specs.Validation.{goes_to_place}
@@ -19,7 +20,8 @@ verdict_text (Some code) = codes "outside " ++ decimal code
 
 abbrev pub item_text : List Polygon → ℕ → Item → List ℕ
 item_text fence number item =
-    decimal number ++ (codes " " ++ ((if goes_to_place item.command then verdict_text (judged fence item) else codes "none") ++ codes "\n"))
+    decimal number ++ (codes " " ++ ((if goes_to_place item.command then verdict_text (judged fence item)
+    else codes "none") ++ codes "\n"))
 
 abbrev pub items_text : List Polygon → ℕ → List Item → List ℕ
 items_text fence number [] = []
@@ -31,8 +33,8 @@ outside fence items = count_by (λ item. is_some (judged fence item)) items
 
 -- ---- legs
 
--- a leg goes from the home or an item with a location to the next such item: where the next leg begins, once an item was
--- looked at, and whether a leg ends at the item and touches the fence
+-- a leg goes from the home or an item with a location to the next such item: where the next leg begins, once an item
+-- was looked at, and whether a leg ends at the item and touches the fence
 abbrev pub next_from : Point → Item → Point
 next_from from item = if goes_to_place item.command then location_of item else from
 
@@ -66,7 +68,8 @@ abbrev pub breaches_of : FileState → List Breach
 breaches_of f = breaches_over f f.mission
 
 abbrev pub breach_text : Breach → List ℕ
-breach_text b = codes "breach " ++ (decimal b.tick ++ (codes " " ++ (signed_decimal b.at.x ++ (codes " " ++ (signed_decimal b.at.y ++ codes "\n")))))
+breach_text b = codes "breach " ++ (decimal b.tick
+    ++ (codes " " ++ (signed_decimal b.at.x ++ (codes " " ++ (signed_decimal b.at.y ++ codes "\n")))))
 
 abbrev pub breaches_text : List Breach → List ℕ
 breaches_text [] = []
@@ -76,7 +79,8 @@ breaches_text (b ∷ more) = breach_text b ++ breaches_text more
 
 abbrev pub counts_text : ℕ → ℕ → ℕ → List ℕ
 counts_text items legs breaches =
-    codes "outside " ++ (decimal items ++ (codes " legs " ++ (decimal legs ++ (codes " breaches " ++ (decimal breaches ++ codes "\n")))))
+    codes "outside " ++ (decimal items ++ (codes " legs "
+    ++ (decimal legs ++ (codes " breaches " ++ (decimal breaches ++ codes "\n")))))
 
 abbrev pub fence_text : FileState → List ℕ
 fence_text f =

@@ -1,5 +1,6 @@
 -- What `fence` does with the bytes of a file.
-use Rattle.std.specs.Prelude.{ℕ, Bool, true, false, not, ◌&&◌, nat_le, if◌then◌else◌, List, [], length, Option, Some, None, is_none}
+use Rattle.std.specs.Prelude.{ℕ, Bool, true, false, not, ◌&&◌, nat_le, if◌then◌else◌, List, [], length, Option, Some}
+use Rattle.std.specs.Prelude.{None, is_none}
 use Rattle.plan_items.specs.declared.items.Item.{Item}
 use Rattle.plan_items.specs.Kinds.{limit_of}
 use Rattle.plan_items.specs.Validation.{plan_fault}

@@ -2,7 +2,8 @@
 ghost use Rattle.std.specs.Prelude.{◌≡◌, true, false, Ok, Err};
 ghost use Rattle.std.specs.declared.result.Result.{Result};
 ghost use Rattle.scenario_lines.specs.Readings.{whole, signed};
-ghost use Rattle.fence_command.specs.FenceFile.{home_says, step_says, ticks_says, list_says, items_say, line_says, file_reason};
+ghost use Rattle.fence_command.specs.FenceFile.{home_says, step_says, ticks_says, list_says, items_say, line_says};
+ghost use Rattle.fence_command.specs.FenceFile.{file_reason};
 ghost use Rattle.scenario_lines.specs.declared.faults.Reason.{Reason};
 ghost use Rattle.fence_command.specs.FenceFile.{FileState};
 ghost use Rattle.fence_command.specs.Files.{state_of};

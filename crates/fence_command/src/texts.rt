@@ -2,7 +2,9 @@
 ghost use Rattle.std.specs.Prelude.{◌≡◌, ◌++◌, ◌≤◌, ◌<◌, ◌+◌, OnOk, IfOk, string_bytes, length, is_some};
 ghost use Rattle.drone_sim.specs.Sim.{location_of};
 ghost use Rattle.fence_watch.specs.Judging.{judged};
-ghost use Rattle.fence_command.specs.FenceText.{item_text, items_text, outside, next_from as next_start, ends_touching as leg_ends_touching, counted, touching, legs_text, breach_text, breaches_text, counts_text};
+ghost use Rattle.fence_command.specs.FenceText.{item_text, items_text, outside, next_from as next_start};
+ghost use Rattle.fence_command.specs.FenceText.{ends_touching as leg_ends_touching, counted, touching, legs_text};
+ghost use Rattle.fence_command.specs.FenceText.{breach_text, breaches_text, counts_text};
 
 use drone_sim::Point;
 use fence_watch::{Breach, Watch, goes_to_location};

@@ -1,8 +1,9 @@
--- Fences: polygons of vertices, and where they let a drone be (MAVLink guide, Mission Protocol: Geofence; MAVLink common
--- messages, MAV_CMD_NAV_FENCE_POLYGON_VERTEX_INCLUSION and _EXCLUSION). The guide leaves open what several inclusion
--- polygons are together, and where a border belongs: that one of them is enough, and that a border is inside an inclusion
--- and outside an exclusion, is this project's profile.
-use Rattle.std.specs.Prelude.{◌≡◌, ◌⊎◌, ℕ, zero, suc, ◌-◌, ◌%◌, ◌==◌, pos, int_le, int_lt, Bool, true, false, not, ◌&&◌, ◌||◌, if◌then◌else◌, List, [], ◌∷◌, ◌++◌, map, take, All, Any, count_by, unwrap_or}
+-- Fences: polygons of vertices, and where they let a drone be (MAVLink guide, Mission Protocol: Geofence; MAVLink
+-- common messages, MAV_CMD_NAV_FENCE_POLYGON_VERTEX_INCLUSION and _EXCLUSION). The guide leaves open what several
+-- inclusion polygons are together, and where a border belongs: that one of them is enough, and that a border is inside
+-- an inclusion and outside an exclusion, is this project's profile.
+use Rattle.std.specs.Prelude.{◌≡◌, ◌⊎◌, ℕ, zero, suc, ◌-◌, ◌%◌, ◌==◌, pos, int_le, int_lt, Bool, true, false, not}
+use Rattle.std.specs.Prelude.{◌&&◌, ◌||◌, if◌then◌else◌, List, [], ◌∷◌, ◌++◌, map, take, All, Any, count_by, unwrap_or}
 use Rattle.std.specs.List.{list_any}
 use Rattle.plan_items.specs.declared.items.Item.{Item}
 use Rattle.plan_items.specs.Validation.{is_vertex, group_len_of}
@@ -17,7 +18,8 @@ pub record Polygon : Type 0 where
 
 -- ---- the polygons of a plan
 
--- how many items the group has that begins with this one; a vertex without a count, which no valid fence has, stands alone
+-- how many items the group has that begins with this one; a vertex without a count, which no valid fence has, stands
+-- alone
 abbrev pub group_size : Item → ℕ
 group_size first = unwrap_or (group_len_of first) 1
 

@@ -1,5 +1,6 @@
 -- What a fence says of the items of a mission, and of a flight.
-use Rattle.std.specs.Prelude.{ℕ, ℤ, int_le, Bool, not, ◌&&◌, ◌||◌, if◌then◌else◌, List, map, filter, Option, Some, None}
+use Rattle.std.specs.Prelude.{ℕ, ℤ, int_le, Bool, not, ◌&&◌, ◌||◌, if◌then◌else◌, List, map, filter, Option, Some}
+use Rattle.std.specs.Prelude.{None}
 use Rattle.std.specs.List.{list_any, range_with_len}
 use Rattle.plan_items.specs.declared.items.Item.{Item}
 use Rattle.plan_items.specs.declared.actions.Action.TheVariants.{Arm, Start}
@@ -9,7 +10,8 @@ use Rattle.drone_sim.specs.Sim.{SimState, new_sim, acts, location_of}
 use Rattle.drone_sim.specs.Laws.{ticks}
 use Rattle.fence_watch.specs.declared.flights.Breach.{Breach}
 use Rattle.fence_watch.specs.declared.groups.Test.{Test}
-use Rattle.fence_watch.specs.declared.groups.Test.TheVariants.{IsInclusion, Includes, Excludes, Meets, ReachesDownTo, ReachesUpTo}
+use Rattle.fence_watch.specs.declared.groups.Test.TheVariants.{IsInclusion, Includes, Excludes, Meets, ReachesDownTo}
+use Rattle.fence_watch.specs.declared.groups.Test.TheVariants.{ReachesUpTo}
 use Rattle.fence_watch.specs.Fences.{Polygon, includes, excludes, meets_border, has_inclusion, allows}
 
 -- an inclusion with a corner at this x or a lesser one, and at this or a greater one
@@ -53,4 +55,5 @@ place_after mission home step n = (ticks n (started home) mission step).position
 -- each of so many ticks after which it is where the fence doesn't allow it, with the place
 abbrev pub flown : List Polygon → List Item → Point → ℕ → ℕ → List Breach
 flown fence mission home step count =
-    filter (λ (b : Breach). not (allows fence b.at)) (map (λ n. record { tick = n; at = place_after mission home step n }) (range_with_len 1 count))
+    filter (λ (b : Breach). not (allows fence b.at))
+    (map (λ n. record { tick = n; at = place_after mission home step n }) (range_with_len 1 count))

@@ -21,8 +21,8 @@ pub record Meet (a b : Segment) : Type 0 where
 
 -- ---- the same by signs
 
--- on which side of the line through o and a the point p lies: the cross product of the ways from o to a and to p, which is
--- 0 on the line
+-- on which side of the line through o and a the point p lies: the cross product of the ways from o to a and to p,
+-- which is 0 on the line
 abbrev pub side : Point → Point → Point → ℤ
 side o a p = ((a.x -ℤ o.x) *ℤ (p.y -ℤ o.y)) -ℤ ((a.y -ℤ o.y) *ℤ (p.x -ℤ o.x))
 

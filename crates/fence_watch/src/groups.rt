@@ -33,7 +33,10 @@ pub(crate) enum Test {
 
 impl Test {
     fn passes(self, is_inclusion: bool, corners: &[Item]) -> bool
-        ensures { result ≡ passes_test self (record { is_inclusion = is_inclusion; corners = map location_of corners.now }) }
+        ensures { result ≡ passes_test self (record {
+          is_inclusion = is_inclusion;
+          corners = map location_of corners.now;
+        }) }
     {
         match self {
             Test::IsInclusion => is_inclusion,

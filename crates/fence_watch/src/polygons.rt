@@ -2,7 +2,9 @@
 ghost use Rattle.std.specs.Prelude.{◌≡◌, map, count_by, int_le};
 ghost use Rattle.std.specs.List.{list_any};
 ghost use Rattle.drone_sim.specs.Sim.{location_of};
-ghost use Rattle.fence_watch.specs.Fences.{spans as spans_at, passes_over as goes_over, crosses_ray as crosses_its_ray, edges_of, meets_border as meets_the_border, is_on_border as is_on_the_border, is_inside as is_inside_of};
+ghost use Rattle.fence_watch.specs.Fences.{spans as spans_at, passes_over as goes_over};
+ghost use Rattle.fence_watch.specs.Fences.{crosses_ray as crosses_its_ray, edges_of, meets_border as meets_the_border};
+ghost use Rattle.fence_watch.specs.Fences.{is_on_border as is_on_the_border, is_inside as is_inside_of};
 
 use crate::Point;
 use crate::segments::{Segment, meet, side};

@@ -1,7 +1,10 @@
 // Whether two segments meet.
 ghost use Rattle.std.specs.Prelude.{◌≡◌, ◌≤◌, ◌^◌, ◌-ℤ◌, ◌*ℤ◌, int_le, unsigned_abs};
 ghost use Rattle.std.specs.Int.{int_min, int_max};
-ghost use Rattle.fence_watch.specs.Segments.{side as side_of, have_zero as numbers_have_zero, crosses_line as crosses_its_line, overlap as numbers_overlap, boxes_overlap as both_boxes_overlap, straddle as segments_straddle, meet as segments_meet};
+ghost use Rattle.fence_watch.specs.Segments.{side as side_of, have_zero as numbers_have_zero};
+ghost use Rattle.fence_watch.specs.Segments.{crosses_line as crosses_its_line, overlap as numbers_overlap};
+ghost use Rattle.fence_watch.specs.Segments.{boxes_overlap as both_boxes_overlap, straddle as segments_straddle};
+ghost use Rattle.fence_watch.specs.Segments.{meet as segments_meet};
 
 use crate::Point;
 

@@ -39,8 +39,8 @@ pub fn goes_to_location(command: u16) -> bool
 }
 
 impl Watch {
-    /// Watches over a copy of the fence. An empty one allows every point; of one that isn't valid, a vertex without a count
-    /// is a polygon by itself, and a group that runs past the end is as long as what is left.
+    /// Watches over a copy of the fence. An empty one allows every point; of one that isn't valid, a vertex without a
+    /// count is a polygon by itself, and a group that runs past the end is as long as what is left.
     pub fn new(alloc: Global, fence: &Plan) -> Result<Watch, NoMemory>
         ensures { IfOk result (λ watch. watch ≡ polygons_of (items_of fence.now)) }
     {
@@ -86,8 +86,8 @@ impl Watch {
                 || !any_polygon(Test::ReachesUpTo(x), items))
     }
 
-    /// The result code for an item of a mission, one of `MissionResult`, if it has a location and that isn't allowed. It
-    /// takes no memory.
+    /// The result code for an item of a mission, one of `MissionResult`, if it has a location and that isn't allowed.
+    /// It takes no memory.
     pub fn judge(&self, item: &Item) -> Option<u8>
         ensures { result ≡ judged self.now item.now }
     {

@@ -1,5 +1,6 @@
 -- Why a definition has no layout.
-use Rattle.std.specs.Prelude.{ℕ, Bool, ◌==◌, nat_lt, if◌then◌else◌, List, length, map, take, slice_index_or, find, Option, Some, None, []}
+use Rattle.std.specs.Prelude.{ℕ, Bool, ◌==◌, nat_lt, if◌then◌else◌, List, length, map, take, slice_index_or, find}
+use Rattle.std.specs.Prelude.{Option, Some, None, []}
 use Rattle.std.specs.List.{list_any, range_with_len}
 use Rattle.std.specs.Str.{bytes_eq}
 use Rattle.field_layout.specs.declared.fields.Field.{Field}
@@ -34,4 +35,5 @@ name_fault names len None = length_fault len
 -- the first fault, or none: no base field, a repeated name, more than 255 bytes
 abbrev pub first_fault : Definition → Option LayoutFault
 first_fault def =
-    if length def.fields == 0 then Some NoFields else name_fault (names_of def) (full_len_of def) (first_repeat (names_of def))
+    if length def.fields == 0 then Some NoFields
+    else name_fault (names_of def) (full_len_of def) (first_repeat (names_of def))

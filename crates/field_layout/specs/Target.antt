@@ -1,5 +1,6 @@
 -- The node that a message is for (MAVLink guide, Routing: target_system and target_component).
-use Rattle.std.specs.Prelude.{ℕ, Bool, true, false, ◌==◌, ◌&&◌, List, codes, slice_index, position, Option, Some, None, option_map}
+use Rattle.std.specs.Prelude.{ℕ, Bool, true, false, ◌==◌, ◌&&◌, List, codes, slice_index, position, Option, Some, None}
+use Rattle.std.specs.Prelude.{option_map}
 use Rattle.std.specs.Str.{bytes_eq}
 use Rattle.field_layout.specs.declared.ty.Ty.{Ty}
 use Rattle.field_layout.specs.declared.ty.Ty.TheVariants.{U8}

@@ -1,7 +1,8 @@
 -- The types of fields (MAVLink guide, Field Types).
 use Rattle.std.specs.Prelude.{ℕ, List, codes}
 use Rattle.field_layout.specs.declared.ty.Ty.{Ty}
-use Rattle.field_layout.specs.declared.ty.Ty.TheVariants.{I8, U8, Char, I16, U16, I32, U32, I64, U64, F32, F64, Version}
+use Rattle.field_layout.specs.declared.ty.Ty.TheVariants.{I8, U8, Char, I16, U16, I32, U32, I64, U64, F32, F64}
+use Rattle.field_layout.specs.declared.ty.Ty.TheVariants.{Version}
 
 -- the bytes of one element
 abbrev pub element_size : Ty → ℕ

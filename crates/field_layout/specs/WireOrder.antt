@@ -31,4 +31,5 @@ wire_order def = base_order def ++ enumerate_from (length def.fields) def.extens
 -- the offset of a field in the payload: the sizes of the fields before it in wire order
 abbrev pub offset_of : Definition → ℕ → ℕ
 offset_of def place =
-    sum_by (λ (field : Placed). size_of field.1) (take_while (λ (field : Placed). not (field.0 == place)) (wire_order def))
+    sum_by (λ (field : Placed). size_of field.1)
+    (take_while (λ (field : Placed). not (field.0 == place)) (wire_order def))

@@ -1,5 +1,6 @@
 // A payload as it is written.
-ghost use Rattle.std.specs.Prelude.{◌≡◌, ◌+◌, ◌*◌, ◌-◌, ◌<◌, ◌≤◌, [], ◌∷◌, ◌++◌, length, flat_map, replicate, ℕ, slice_index};
+ghost use Rattle.std.specs.Prelude.{◌≡◌, ◌+◌, ◌*◌, ◌-◌, ◌<◌, ◌≤◌, [], ◌∷◌, ◌++◌, length, flat_map, replicate, ℕ};
+ghost use Rattle.std.specs.Prelude.{slice_index};
 ghost use Rattle.field_layout.specs.Payload.{le_bytes, truncated};
 
 use std::marker::Model;
@@ -135,8 +136,8 @@ impl Buffer {
         *out = self.bytes;
     }
 
-    /// The bytes that are sent: all but the zeros at the end, and at least the first (MAVLink guide, Packet Serialization:
-    /// Empty-Byte Payload Truncation).
+    /// The bytes that are sent: all but the zeros at the end, and at least the first (MAVLink guide, Packet
+    /// Serialization: Empty-Byte Payload Truncation).
     pub fn truncated(&self) -> &[u8]
         ensures bytes { result.now ≡ truncated self.now }
         ensures short { length result.now ≤ 255 }

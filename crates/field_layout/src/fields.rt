@@ -28,7 +28,12 @@ impl Model for MessageDef {
 
     ghost Value = { Definition };
 
-    ghost view = { λ d. record { id = d.id; name = d.name; fields = d.fields.items; extensions = d.extensions.items } };
+    ghost view = { λ d. record {
+      id = d.id;
+      name = d.name;
+      fields = d.fields.items;
+      extensions = d.extensions.items;
+    } };
 }
 
 impl Field {

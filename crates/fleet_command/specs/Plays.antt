@@ -1,5 +1,6 @@
 -- A scenario that is played byte by byte: what the bytes to come do, after a line that is held unfinished.
-use Rattle.std.specs.Prelude.{◌≡◌, ℕ, ◌-◌, ◌*◌, nat_lt, Bool, if◌then◌else◌, List, ◌++◌, length, Option, Some, None, Ok, Err, option_map}
+use Rattle.std.specs.Prelude.{◌≡◌, ℕ, ◌-◌, ◌*◌, nat_lt, Bool, if◌then◌else◌, List, ◌++◌, length, Option, Some, None}
+use Rattle.std.specs.Prelude.{Ok, Err, option_map}
 use Rattle.std.specs.declared.result.Result.{Result}
 use Rattle.std.specs.Io.KnownBytes.{append_known}
 use Rattle.mav_ports.specs.Puts.{SentPrefix}
@@ -7,14 +8,17 @@ use Rattle.fleet_world.specs.WorldView.{WorldView, IsState}
 use Rattle.scenario_lines.specs.declared.faults.Reason.TheVariants.{Long}
 use Rattle.scenario_lines.specs.Reasons.{reason_against}
 use Rattle.fleet_world.specs.WorldState.{context_of}
-use Rattle.fleet_world.specs.Scenario.{whole_report, Played, ScenarioError, Bad, Too_many_lines, stopped, judged, played, report_of}
+use Rattle.fleet_world.specs.Scenario.{whole_report, Played, ScenarioError, Bad, Too_many_lines, stopped, judged}
+use Rattle.fleet_world.specs.Scenario.{played, report_of}
 use Rattle.scenario_lines.specs.FileLines.{most_lines}
 use Rattle.command_inputs.specs.LineRules.{LineRules}
 use Rattle.command_inputs.specs.ByteByByte.{reads}
 use Rattle.run_status.specs.declared.run_ends.RunEnd.{RunEnd}
-use Rattle.run_status.specs.declared.run_ends.RunEnd.TheVariants.{Usage, Stopped, ReadFault, WriteFault, NoMemory, TurnsSpent, Live}
+use Rattle.run_status.specs.declared.run_ends.RunEnd.TheVariants.{Usage, Stopped, ReadFault, WriteFault, NoMemory}
+use Rattle.run_status.specs.declared.run_ends.RunEnd.TheVariants.{TurnsSpent, Live}
 use Rattle.run_status.specs.declared.input_errors.InputError.{InputError}
-use Rattle.mav_nodes.specs.declared.faults.NodeFault.TheVariants.{StampsSpent as NoTimestamp, Store as NodeStore, NoMemory as NoNodeMemory}
+use Rattle.mav_nodes.specs.declared.faults.NodeFault.TheVariants.{StampsSpent as NoTimestamp, Store as NodeStore}
+use Rattle.mav_nodes.specs.declared.faults.NodeFault.TheVariants.{NoMemory as NoNodeMemory}
 use Rattle.fleet_world.specs.declared.faults.WorldFault.{WorldFault}
 use Rattle.fleet_world.specs.declared.faults.WorldFault.TheVariants.{Limit, Node, NoMemory as NoWorldMemory}
 use Rattle.fleet_world.specs.Steps.{At_limit, Stamps_spent}
@@ -41,14 +45,16 @@ pub record Holds (frames : Bool) (p : Played) (world : WorldView) (before now : 
   pub sent : now ≡ append_known before (report_of frames p)
 
 -- these bytes were taken and played under a key, up to the line that is held
-pub record Reading (key : List ℕ) (frames : Bool) (taken : List ℕ) (world : WorldView) (number : ℕ) (part : List ℕ) (before now : Option (List ℕ)) : Type 0 where
+pub record Reading (key : List ℕ) (frames : Bool) (taken : List ℕ) (world : WorldView) (number : ℕ) (part : List ℕ)
+    (before now : Option (List ℕ)) : Type 0 where
   pub soFar : Played
   pub holds : Holds frames soFar world before now
   pub onwards : (ended : Bool) (rest : List ℕ) → played key ended (taken ++ rest) ≡ plays ended soFar number part rest
 
 -- a scenario stopped, and its report was written
 abbrev pub StoppedBy : Bool → InputError → Played → Option (List ℕ) → Option (List ℕ) → Type 0
-StoppedBy frames stop q before now = (option_map reported_error q.stop ≡ Some stop) × (now ≡ append_known before (report_of frames q))
+StoppedBy frames stop q before now = (option_map reported_error q.stop ≡ Some stop)
+    × (now ≡ append_known before (report_of frames q))
 
 -- what a run that halts leaves of a scenario that leads to `q`: it stopped there, or a prefix of this text was written
 abbrev pub HaltedAt : Bool → RunEnd → Played → List ℕ → Option (List ℕ) → Option (List ℕ) → Type 0
@@ -61,7 +67,8 @@ HaltedAt frames TurnsSpent q text before now = ⊥
 HaltedAt frames (Live end) q text before now = ⊥
 
 -- a step led to `q`, or halted on the way there
-abbrev pub Leads : {T : Type 0} → Bool → Result T RunEnd → Played → WorldView → Option (List ℕ) → Option (List ℕ) → Type 0
+abbrev pub Leads : {T : Type 0} → Bool → Result T RunEnd → Played → WorldView → Option (List ℕ) → Option (List ℕ)
+    → Type 0
 Leads frames (Ok done) q world before now = Holds frames q world before now
 Leads frames (Err run_end) q world before now = HaltedAt frames run_end q (report_of frames q) before now
 

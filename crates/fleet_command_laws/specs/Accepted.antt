@@ -1,7 +1,8 @@
--- Each accepted `command` line begins one line of its station, with one frame of confirmation 0, and nothing else begins any:
--- so the number of a line is its place among the `command` lines that its station accepted. That frame is for the drone
--- which the line names, and has its number, and its word as the first parameter.
-use Rattle.std.specs.Prelude.{ℕ, ◌≡◌, ◌++◌, Bool, if◌then◌else◌, List, [], ◌∷◌, slice_get, position, Option, Some, None, Ok, Err}
+-- Each accepted `command` line begins one line of its station, with one frame of confirmation 0, and nothing else
+-- begins any: so the number of a line is its place among the `command` lines that its station accepted. That frame is
+-- for the drone which the line names, and has its number, and its word as the first parameter.
+use Rattle.std.specs.Prelude.{ℕ, ◌≡◌, ◌++◌, Bool, if◌then◌else◌, List, [], ◌∷◌, slice_get, position, Option, Some}
+use Rattle.std.specs.Prelude.{None, Ok, Err}
 use Rattle.std.specs.declared.result.Result.{Result}
 use Rattle.mav_names.specs.declared.names.Name.{Name}
 use Rattle.mav_names.specs.Addresses.{same_name, node_of}
@@ -66,4 +67,5 @@ abbrev pub EachLineBegins : (key : List ℕ) (ended : Bool) (bytes : List ℕ) �
 EachLineBegins key ended bytes = HoldsOfEach DoneBegins key ended bytes
 
 abbrev pub EveryLineBegins : Type 0
-EveryLineBegins = (key : List ℕ) (ended : Bool) (bytes : List ℕ) → Authentic key ended bytes → EachLineBegins key ended bytes
+EveryLineBegins = (key : List ℕ) (ended : Bool) (bytes : List ℕ) → Authentic key ended bytes
+    → EachLineBegins key ended bytes

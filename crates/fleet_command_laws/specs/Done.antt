@@ -1,5 +1,6 @@
--- What a drone's executor does at each entry of the history of its link, from the drone's start on. A drone that starts again
--- has a new history and a new executor (`restarted_drone` of mav_nodes): so all this is between two starts.
+-- What a drone's executor does at each entry of the history of its link, from the drone's start on. A drone that
+-- starts again has a new history and a new executor (`restarted_drone` of mav_nodes): so all this is between two
+-- starts.
 use Rattle.std.specs.Prelude.{◌≡◌, List, [], ◌∷◌, ◌++◌, map, Option, Some, None}
 use Rattle.mav_names.specs.declared.names.Stream.{Stream}
 use Rattle.mav_names.specs.Addresses.{node_of}
@@ -7,7 +8,8 @@ use Rattle.mav_frame.specs.Packet.{Packet, SignatureBlock}
 use Rattle.plan_items.specs.declared.messages.PlanMsg.{PlanMsg}
 use Rattle.mav_messages.specs.declared.messages.Message.{Message}
 use Rattle.mav_sign.specs.declared.admission.Admit.{Admit}
-use Rattle.mav_sign.specs.declared.admission.Admit.TheVariants.{Admitted, Unsigned, BadSignature, BelowFloor, NotLater, TooOld, TooManyStreams}
+use Rattle.mav_sign.specs.declared.admission.Admit.TheVariants.{Admitted, Unsigned, BadSignature, BelowFloor, NotLater}
+use Rattle.mav_sign.specs.declared.admission.Admit.TheVariants.{TooOld, TooManyStreams}
 use Rattle.mav_sign.specs.History.{Entry, tried, sent, started, stream_of}
 use Rattle.command_proto.specs.declared.executor.Ready.{Ready}
 use Rattle.command_proto.specs.declared.commands.Command.{Command}
@@ -20,7 +22,8 @@ pub record Moment : Type 0 where
   pub entry : Entry
   pub ready : Ready
 
--- the messages of an admitted frame, as `takes` of mav_nodes takes them: a message of the mission protocol is none of the executor
+-- the messages of an admitted frame, as `takes` of mav_nodes takes them: a message of the mission protocol is none of
+-- the executor
 abbrev pub hears_message : ExecutorState → Ready → Stream → Option PlanMsg → Option Message → ExecutorStep
 hears_message e ready from (Some plan) other = ignores e
 hears_message e ready from None None = ignores e
@@ -28,7 +31,8 @@ hears_message e ready from None (Some message) = executor_step e from message re
 
 abbrev pub hears_frame : ExecutorState → Ready → Packet → Option SignatureBlock → ExecutorStep
 hears_frame e ready p None = ignores e
-hears_frame e ready p (Some block) = hears_message e ready (stream_of p block) (plan_in p.id p.payload) (service_in p.id p.payload)
+hears_frame e ready p (Some block) = hears_message e ready (stream_of p block) (plan_in p.id p.payload)
+    (service_in p.id p.payload)
 
 -- only an admitted frame is heard
 abbrev pub hears_tried : ExecutorState → Ready → Packet → Admit → ExecutorStep
@@ -60,7 +64,8 @@ frame_done (started low) command = []
 -- the frames at which commands are done, the first first
 abbrev pub commands_done : ExecutorState → List Moment → List Packet
 commands_done e [] = []
-commands_done e (m ∷ ms) = frame_done m.entry (step_at e m.ready m.entry).done ++ commands_done (step_at e m.ready m.entry).executor ms
+commands_done e (m ∷ ms) = frame_done m.entry (step_at e m.ready m.entry).done
+    ++ commands_done (step_at e m.ready m.entry).executor ms
 
 abbrev pub entries_of : List Moment → List Entry
 entries_of moments = map (λ (m : Moment). m.entry) moments

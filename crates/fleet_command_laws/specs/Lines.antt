@@ -1,6 +1,6 @@
--- Which `command` line a sent frame belongs to. An accepted line sends COMMAND_LONG with confirmation 0, and each tick that
--- gives it again a confirmation above 0 (MAVLink guide, Command Protocol): so the lines of a station are counted by the
--- frames with confirmation 0, and each of these has its line's order.
+-- Which `command` line a sent frame belongs to. An accepted line sends COMMAND_LONG with confirmation 0, and each tick
+-- that gives it again a confirmation above 0 (MAVLink guide, Command Protocol): so the lines of a station are counted
+-- by the frames with confirmation 0, and each of these has its line's order.
 use Rattle.std.specs.Prelude.{ℕ, zero, suc, ◌+◌, ◌==◌, if◌then◌else◌, List, [], ◌∷◌, ◌++◌, Option, Some, None}
 use Rattle.mav_names.specs.declared.names.Name.{Name}
 use Rattle.mav_names.specs.Addresses.{same_name}

@@ -1,5 +1,5 @@
--- A drone's history only goes on, so that all that it heard since its latest start is in it; it begins anew in a `restart` line
--- of that drone, and nowhere else.
+-- A drone's history only goes on, so that all that it heard since its latest start is in it; it begins anew in a
+-- `restart` line of that drone, and nowhere else.
 use Rattle.std.specs.Prelude.{ℕ, ◌≡◌, ◌⊎◌, true, List, [], ◌∷◌, ◌++◌, slice_get, Some, Ok, Err}
 use Rattle.std.specs.declared.result.Result.{Result}
 use Rattle.mav_names.specs.Addresses.{same_name, node_of}
@@ -11,7 +11,10 @@ use Rattle.mav_nodes.specs.Steps.{hears}
 use Rattle.mav_nodes.specs.Nodes.{DroneSide, drone_rules}
 use Rattle.mav_nodes.specs.Restarts.{restarted_drone}
 use Rattle.scenario_lines.specs.declared.lines.Line.{Line}
-use Rattle.scenario_lines.specs.declared.lines.Line.TheVariants.{Blank, Drone as DroneLine, Station as StationLine, Item as OneItem, Items, Empty, Begin, Cancel, Clear, Get, Command, Params, Heartbeat, Deliver, Flow, Noise, Tick, Clock, Restart, Sim, WhereIs}
+use Rattle.scenario_lines.specs.declared.lines.Line.TheVariants.{Blank, Drone as DroneLine, Station as StationLine}
+use Rattle.scenario_lines.specs.declared.lines.Line.TheVariants.{Item as OneItem, Items, Empty, Begin, Cancel, Clear}
+use Rattle.scenario_lines.specs.declared.lines.Line.TheVariants.{Get, Command, Params, Heartbeat, Deliver, Flow, Noise}
+use Rattle.scenario_lines.specs.declared.lines.Line.TheVariants.{Tick, Clock, Restart, Sim, WhereIs}
 use Rattle.node_reports.specs.Nodes.{Drone}
 use Rattle.fleet_world.specs.WorldState.{WorldState}
 use Rattle.fleet_world.specs.Steps.{Step, StepError, after_line}
@@ -31,7 +34,8 @@ pub record HasHistory (t : WorldState) (k : ℕ) (before : List Entry) : Type 0 
 -- of the drone with an index, after a line
 abbrev pub HistoryAfter : Line → WorldState → WorldState → ℕ → DroneSide → Type 0
 HistoryAfter (Restart drone) s t k d =
-    HasHistory t k d.link.history ⊎ ((same_name (node_of d.link.me) drone ≡ true) × HasHistory t k (restarted_drone s.key d).link.history)
+    HasHistory t k d.link.history ⊎ ((same_name (node_of d.link.me) drone ≡ true)
+    × HasHistory t k (restarted_drone s.key d).link.history)
 HistoryAfter Blank s t k d = HasHistory t k d.link.history
 HistoryAfter (DroneLine sys x y) s t k d = HasHistory t k d.link.history
 HistoryAfter (StationLine sys comp) s t k d = HasHistory t k d.link.history
@@ -54,7 +58,8 @@ HistoryAfter (Sim drone n) s t k d = HasHistory t k d.link.history
 HistoryAfter (WhereIs drone) s t k d = HasHistory t k d.link.history
 
 abbrev pub HistoriesAfter : WorldState → Line → Result Step StepError → Type 0
-HistoriesAfter s line (Ok t) = (k : ℕ) (d : DroneSide) → slice_get s.nodes k ≡ Some (Drone d) → HistoryAfter line s t.state k d
+HistoriesAfter s line (Ok t) = (k : ℕ) (d : DroneSide) → slice_get s.nodes k ≡ Some (Drone d)
+    → HistoryAfter line s t.state k d
 HistoriesAfter s line (Err error) = Unit {0}
 
 -- in any state
@@ -63,12 +68,14 @@ EveryHistoryGoesOn = (s : WorldState) (line : Line) → HistoriesAfter s line (a
 
 -- ---- one frame
 
--- a drone has heard a frame: the frame and its verdict are the next entry, before those of what it sends in reply, and its
--- executor has done the step of that entry, as ready as the drone was
+-- a drone has heard a frame: the frame and its verdict are the next entry, before those of what it sends in reply, and
+-- its executor has done the step of that entry, as ready as the drone was
 pub record HasHeard (n : DroneSide) (p : Packet) (after : DroneSide) : Type 0 where
   pub history : GoesOn (n.link.history ++ tried p (answer_to n.link.key n.link.history p) ∷ []) after.link.history
-  pub executor : after.services.executor ≡ (step_at n.services.executor (ready_of n.core n.services) (tried p (answer_to n.link.key n.link.history p))).executor
+  pub executor : after.services.executor ≡ (step_at n.services.executor (ready_of n.core n.services)
+      (tried p (answer_to n.link.key n.link.history p))).executor
 
 -- as each frame of a datagram is heard
 abbrev pub EveryFrameHeard : Type 0
-EveryFrameHeard = (clock : ℕ) (p : Packet) (n : DroneSide) (d : Done DroneSide) → hears drone_rules clock p n ≡ Some d → HasHeard n p d.node
+EveryFrameHeard = (clock : ℕ) (p : Packet) (n : DroneSide) (d : Done DroneSide) → hears drone_rules clock p n ≡ Some d
+    → HasHeard n p d.node

@@ -17,17 +17,19 @@ AskNoFleet words = (asked : Asked) → Asks built words asked → asked.command 
 pub record FleetPromises (words : List (List ℕ)) (key main : Input) (out : Output) (code : ℕ) : Type 0 where
   -- `fleet` did what it does, and all that it promises of that holds
   pub does : (asked : Asked) → Asks built words asked → asked.command ≡ Fleet
-      → Fleets (has_given Key asked.settings) (has_given Frames asked.settings) (promised_over out code) (code ≢ 0) key main
+      → Fleets (has_given Key asked.settings) (has_given Frames asked.settings) (promised_over out code)
+      (code ≢ 0) key main
   -- the main theorem, of that same run
   pub main_theorem : (asked : Asked) → Asks built words asked → asked.command ≡ Fleet
       → FleetsCarry (has_given Key asked.settings) (has_given Frames asked.settings) out code key main
-  -- completeness: if no port fails, an authentic scenario of the grammar that keeps to the limits is played to its end,
-  -- unless memory ran out
+  -- completeness: if no port fails, an authentic scenario of the grammar that keeps to the limits is played to its
+  -- end, unless memory ran out
   pub completeness : (asked : Asked) → Asks built words asked → asked.command ≡ Fleet
       → FleetsComplete (has_given Key asked.settings) (has_given Frames asked.settings) out code key main
   -- the words are of no `fleet` exactly if the status is 2, unless the output refused that text or there was no memory
   pub usage : code ≡ 2 → AskNoFleet words
-  pub usage_only : AskNoFleet words → UsageReported code out.refusals_before out.refusals_after out.sent_before out.sent_after
+  pub usage_only : AskNoFleet words → UsageReported code out.refusals_before out.refusals_after out.sent_before
+      out.sent_after
   -- what the words don't name isn't read
   pub unread_key : (asked : Asked) → Asks built words asked → has_given Key asked.settings ≡ false → key.unread
   pub untouched : AskNoFleet words → main.unread × key.unread

@@ -1,6 +1,7 @@
 -- An uncontended upload, as a scenario's bytes have it: a begin line of a valid plan, with a long enough
 -- flow as the very next line. And what then happens within that flow line.
-use Rattle.std.specs.Prelude.{◌≡◌, ℕ, ◌+◌, ◌*◌, ◌<◌, ◌≤◌, Bool, true, false, List, [], ◌∷◌, ◌++◌, length, slice_get, Option, Some, None}
+use Rattle.std.specs.Prelude.{◌≡◌, ℕ, ◌+◌, ◌*◌, ◌<◌, ◌≤◌, Bool, true, false, List, [], ◌∷◌, ◌++◌, length, slice_get}
+use Rattle.std.specs.Prelude.{Option, Some, None}
 use Rattle.mav_nodes.specs.Nodes.{DroneSide, StationSide}
 use Rattle.mav_names.specs.declared.names.Name.{Name}
 use Rattle.plan_items.specs.declared.items.Item.{Item}
@@ -26,7 +27,8 @@ pub record Upload : Type 0 where
   pub kind : PlanKind
   pub plan : List Item
 
--- the line after the begin line: a whole one with more after it, or the last one, without its LF, of an input that ended
+-- the line after the begin line: a whole one with more after it, or the last one, without its LF, of an input that
+-- ended
 pub data NextLine : Type 0 where
   Whole : (raw : List ℕ) (more : List (List ℕ)) → NextLine
   Last : (raw : List ℕ) → NextLine
@@ -44,7 +46,8 @@ pub record Lines : Type 0 where
 -- the bytes have these lines, one right after the other
 abbrev pub HaveLines : Bool → List ℕ → List (List ℕ) → List ℕ → NextLine → Type 0
 HaveLines ended bytes front begin (Whole raw more) = whole_lines bytes ≡ front ++ begin ∷ raw ∷ more
-HaveLines ended bytes front begin (Last raw) = (ended ≡ true) × ((whole_lines bytes ≡ front ++ begin ∷ []) × (unfinished bytes ≡ raw))
+HaveLines ended bytes front begin (Last raw) = (ended ≡ true)
+    × ((whole_lines bytes ≡ front ++ begin ∷ []) × (unfinished bytes ≡ raw))
 
 -- what the lines before the begin line lead to, and those up to it
 abbrev pub before : List ℕ → Lines → Played
@@ -77,15 +80,15 @@ pub record IsFree (s : WorldState) (u : Upload) : Type 0 where
   pub named : node_name (Drone drone) ≡ u.drone
   pub free : is_other drone.core.upload (stream_of u.station) ≡ false
 
--- a drone that has started again admits what is later than its low bound: the station has admitted a frame of it that it
--- sent since, and so one above that bound
+-- a drone that has started again admits what is later than its low bound: the station has admitted a frame of it that
+-- it sent since, and so one above that bound
 abbrev pub HasHeard : Option ℕ → Option ℕ → Type 0
 HasHeard None last = Unit {0}
 HasHeard (Some low) None = ⊥
 HasHeard (Some low) (Some last) = low < last
 
--- an accepted upload of a valid plan to a free drone, which the station has heard, and whose flow line is long enough. Up to that line the scenario
--- wasn't stopped, neither by a line nor by a limit
+-- an accepted upload of a valid plan to a free drone, which the station has heard, and whose flow line is long enough.
+-- Up to that line the scenario wasn't stopped, neither by a line nor by a limit
 pub record IsUncontended (key : List ℕ) (ended : Bool) (bytes : List ℕ) (l : Lines) (u : Upload) : Type 0 where
   pub lines : HaveLines ended bytes l.front l.begin l.flow
   pub front_done : (before key l).stop ≡ None
@@ -106,7 +109,8 @@ pub record Installs (u : Upload) (events : List Event) : Type 0 where
   pub earlier : List Event
   pub between : List Event
   pub later : List Event
-  pub is : events ≡ earlier ++ Installed u.drone (number_of u.kind) u.plan u.station ∷ (between ++ Ended u.station Told_installed ∷ later)
+  pub is : events ≡ earlier ++ Installed u.drone (number_of u.kind) u.plan u.station
+      ∷ (between ++ Ended u.station Told_installed ∷ later)
 
 -- so it is within the flow line, whose events come among those of the whole scenario
 pub record IsInstalled (key : List ℕ) (ended : Bool) (bytes : List ℕ) (l : Lines) (u : Upload) : Type 0 where

@@ -8,5 +8,6 @@ ghost use Rattle.fleet_liveness.specs.Room.{IsDone};
 /// The limit of frames alone: each node sends at most 40 frames for one that it is given, which are a
 /// drone's parameters, and no node of a sound state runs out of timestamps.
 pub fn every_flow_with_room()
-    ensures { (s : WorldState) → Sound s → (k : ℕ) → length s.sent + 40 * (k * length s.nodes) ≤ most_frames → IsDone (flows k s) }
+    ensures { (s : WorldState) → Sound s → (k : ℕ) → length s.sent + 40 * (k * length s.nodes) ≤ most_frames
+        → IsDone (flows k s) }
 {}

@@ -9,5 +9,6 @@ ghost use Rattle.fleet_liveness.specs.Uncontended.{Lines, Upload, IsUncontended,
 /// for each of the n items, and the acknowledgement.
 pub fn every_uncontended_upload()
     ensures { (key : List ℕ) → (ended : Bool) → (bytes : List ℕ) → Authentic key ended bytes
-        → (lines : Lines) → (upload : Upload) → IsUncontended key ended bytes lines upload → IsInstalled key ended bytes lines upload }
+        → (lines : Lines) → (upload : Upload) → IsUncontended key ended bytes lines upload
+        → IsInstalled key ended bytes lines upload }
 {}

@@ -3,7 +3,8 @@ use Rattle.std.specs.Prelude.{ℕ, List, ◌++◌, codes}
 use Rattle.std.specs.Fmt.{decimal, signed_decimal}
 use Rattle.plan_items.specs.declared.items.Item.{Item}
 use Rattle.plan_items.specs.declared.messages.PlanMsg.{PlanMsg}
-use Rattle.plan_items.specs.declared.messages.PlanMsg.TheVariants.{Count, Request, Item as Give, Ack, List as Listing, Clear, Ping}
+use Rattle.plan_items.specs.declared.messages.PlanMsg.TheVariants.{Count, Request, Item as Give, Ack, List as Listing}
+use Rattle.plan_items.specs.declared.messages.PlanMsg.TheVariants.{Clear, Ping}
 use Rattle.fleet_report.specs.Texts.{space, newline, kind_text, word_text, words_text}
 
 -- the name that a message of the mission protocol is printed by
@@ -29,4 +30,5 @@ numbers_text (Clear to kind) = kind_text kind
 -- the end of an item's line: P1 P2 P3 P4 X Y Z
 abbrev pub place_text : Item → List ℕ
 place_text item =
-    words_text item.p ++ signed_decimal item.x ++ space ++ signed_decimal item.y ++ space ++ word_text item.z ++ newline
+    words_text item.p ++ signed_decimal item.x ++ space ++ signed_decimal item.y ++ space ++ word_text item.z
+    ++ newline

@@ -1,10 +1,13 @@
--- What is printed of the program's own events, which lend what is large, and of an installed plan have the number of items alone.
+-- What is printed of the program's own events, which lend what is large, and of an installed plan have the number of
+-- items alone.
 use Rattle.std.specs.Prelude.{ℕ, Bool, List, Option, Some, None}
 use Rattle.std.specs.Borrow.{Bor}
 use Rattle.plan_items.specs.Kinds.{number_of}
 use Rattle.plan_upload.specs.Outcomes.{told_of}
 use Rattle.param_proto.specs.declared.params.Param.{Param}
-use Rattle.fleet_report.specs.Events.{Sent, Emptied, Dropped, Missing, Restarted, Refused, Ended, Command_ended, Params_ended, Param_given, Command_refused, Params_refused, Reached, Captured, Located, event_text, installed_text}
+use Rattle.fleet_report.specs.Events.{Sent, Emptied, Dropped, Missing, Restarted, Refused, Ended, Command_ended}
+use Rattle.fleet_report.specs.Events.{Params_ended, Param_given, Command_refused, Params_refused, Reached, Captured}
+use Rattle.fleet_report.specs.Events.{Located, event_text, installed_text}
 use Rattle.fleet_report.specs.Reports.{ReportState, with_text}
 use Rattle.fleet_report.specs.declared.event.Event.{Event as Saying}
 use Rattle.fleet_report.specs.declared.event.Event.TheVariants as said

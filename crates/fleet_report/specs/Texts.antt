@@ -1,15 +1,18 @@
 -- How names, kinds, messages, items and causes are printed.
-use Rattle.std.specs.Prelude.{ℕ, ℤ, ◌+◌, ◌/◌, ◌%◌, ◌==◌, if◌then◌else◌, List, [], ◌∷◌, ◌++◌, length, codes, Option, Some, None}
+use Rattle.std.specs.Prelude.{ℕ, ℤ, ◌+◌, ◌/◌, ◌%◌, ◌==◌, if◌then◌else◌, List, [], ◌∷◌, ◌++◌, length, codes, Option}
+use Rattle.std.specs.Prelude.{Some, None}
 use Rattle.std.specs.Fmt.{decimal, signed_decimal}
 use Rattle.hex.specs.Hex.{encode_lower}
 use Rattle.mav_names.specs.declared.names.Name.{Name}
 use Rattle.plan_items.specs.declared.items.Item.{Item}
 use Rattle.plan_items.specs.declared.messages.PlanMsg.{PlanMsg}
-use Rattle.plan_items.specs.declared.messages.PlanMsg.TheVariants.{Count, Request, Item as Give, Ack, List as Listing, Clear, Ping}
+use Rattle.plan_items.specs.declared.messages.PlanMsg.TheVariants.{Count, Request, Item as Give, Ack, List as Listing}
+use Rattle.plan_items.specs.declared.messages.PlanMsg.TheVariants.{Clear, Ping}
 use Rattle.plan_upload.specs.declared.faults.OpFault.{OpFault}
 use Rattle.plan_upload.specs.declared.faults.OpFault.TheVariants.{Busy, EmptyPlan, PingsSpent, NotFit, NoMemory}
 use Rattle.plan_upload.specs.Plans.{every_kind}
-use Rattle.plan_upload.specs.Station.{Told, Told_installed, Told_not_installed, Told_unknown, Told_cleared, Told_got, Told_ended, addressee}
+use Rattle.plan_upload.specs.Station.{Told, Told_installed, Told_not_installed, Told_unknown, Told_cleared, Told_got}
+use Rattle.plan_upload.specs.Station.{Told_ended, addressee}
 use Rattle.field_layout.specs.CharText.{quoted_text}
 use Rattle.mav_messages.specs.declared.messages.Message.{Message}
 use Rattle.mav_messages.specs.Messages.{definition_of, values_of}
@@ -17,7 +20,8 @@ use Rattle.mav_messages.specs.Plans.{plan_of}
 use Rattle.mav_messages.specs.Targets.{target_field}
 use Rattle.param_proto.specs.declared.params.Param.{Param}
 use Rattle.mav_sign.specs.declared.admission.Admit.{Admit}
-use Rattle.mav_sign.specs.declared.admission.Admit.TheVariants.{Admitted, Unsigned, BadSignature, BelowFloor, NotLater, TooOld, TooManyStreams}
+use Rattle.mav_sign.specs.declared.admission.Admit.TheVariants.{Admitted, Unsigned, BadSignature, BelowFloor, NotLater}
+use Rattle.mav_sign.specs.declared.admission.Admit.TheVariants.{TooOld, TooManyStreams}
 
 abbrev pub space : List ℕ
 space = 32 ∷ []
@@ -112,7 +116,8 @@ wire_text w = encode_lower (little_endian w)
 -- a parameter's line: STATION ID TYPE WORD
 abbrev pub param_text : Name → Param → List ℕ
 param_text station param =
-    codes "param " ++ name_text station ++ space ++ quoted_text param.id ++ space ++ decimal param.ty ++ space ++ wire_text param.word ++ newline
+    codes "param " ++ name_text station ++ space ++ quoted_text param.id ++ space ++ decimal param.ty ++ space
+    ++ wire_text param.word ++ newline
 
 -- the lines of parameters
 abbrev pub params_text : Name → List Param → List ℕ

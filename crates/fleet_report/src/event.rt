@@ -33,8 +33,8 @@ pub enum Event<'a> {
     Ended(Name, &'a Outcome),
     /// A station's command ended: by the drone's result, or without an answer.
     CommandEnded(Name, Option<u8>),
-    /// A station's list of a drone's parameters ended with these values, in order of their indices; or its read, set or
-    /// list ended without an answer.
+    /// A station's list of a drone's parameters ended with these values, in order of their indices; or its read, set
+    /// or list ended without an answer.
     ParamsEnded(Name, Option<&'a [Param]>),
     /// A station's read or set of a parameter ended with its value.
     ParamGiven(Name, &'a Param),

@@ -7,7 +7,8 @@ ghost use Rattle.mav_frame.specs.Encoding.{encoding};
 ghost use Rattle.hex.specs.Hex.{encode_lower};
 ghost use Rattle.std.specs.Fmt.{decimal};
 ghost use Rattle.fleet_report.specs.Texts.{space, newline, name_text};
-ghost use Rattle.fleet_report.specs.Events.{Sent, Emptied, Dropped, Refused, Ended, Command_ended, Params_ended, Param_given, Located, plan_text, frame_text, installed_text};
+ghost use Rattle.fleet_report.specs.Events.{Sent, Emptied, Dropped, Refused, Ended, Command_ended, Params_ended};
+ghost use Rattle.fleet_report.specs.Events.{Param_given, Located, plan_text, frame_text, installed_text};
 ghost use Rattle.fleet_report.specs.Reports.{reported, with_text};
 ghost use Rattle.fleet_report.specs.Sayings.{says};
 
@@ -99,7 +100,8 @@ impl Report {
 
     // A line of a word, a node and a number.
     fn counted(&mut self, word: &str, node: Name, number: u32) -> Result<(), NoMemory>
-        ensures { OnOk result (self.new ≡ with_text self.old (word.now ++ space ++ name_text node ++ space ++ decimal number ++ newline)) }
+        ensures { OnOk result (self.new ≡ with_text self.old
+            (word.now ++ space ++ name_text node ++ space ++ decimal number ++ newline)) }
     {
         writeln!(self.text, "{word} {} {number}", NameText(node))
     }

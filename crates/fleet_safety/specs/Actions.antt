@@ -1,6 +1,7 @@
--- The actions of a scenario: the smallest things that happen in it, one call of one node at one frame. The functions follow
--- those of a line's step (`after_line` of fleet_world), line by line and call by call.
-use Rattle.std.specs.Prelude.{ℕ, ◌+◌, ◌-◌, zero, suc, Bool, true, false, if◌then◌else◌, List, [], ◌∷◌, ◌++◌, length, slice_get, slice_set, position, Option, Some, None, unwrap_or, Ok, Err}
+-- The actions of a scenario: the smallest things that happen in it, one call of one node at one frame. The functions
+-- follow those of a line's step (`after_line` of fleet_world), line by line and call by call.
+use Rattle.std.specs.Prelude.{ℕ, ◌+◌, ◌-◌, zero, suc, Bool, true, false, if◌then◌else◌, List, [], ◌∷◌, ◌++◌, length}
+use Rattle.std.specs.Prelude.{slice_get, slice_set, position, Option, Some, None, unwrap_or, Ok, Err}
 use Rattle.std.specs.declared.result.Result.{Result}
 use Rattle.std.specs.Str.{bytes_eq}
 use Rattle.mav_names.specs.declared.names.Name.{Name}
@@ -9,7 +10,8 @@ use Rattle.mav_frame.specs.Packet.{Packet, SignatureBlock}
 use Rattle.mav_frame.specs.Encoding.{encoding}
 use Rattle.mav_frame.specs.FinalParse.{final_parse}
 use Rattle.mav_sign.specs.declared.admission.Admit.{Admit}
-use Rattle.mav_sign.specs.declared.admission.Admit.TheVariants.{Admitted, Unsigned, BadSignature, BelowFloor, NotLater, TooOld, TooManyStreams}
+use Rattle.mav_sign.specs.declared.admission.Admit.TheVariants.{Admitted, Unsigned, BadSignature, BelowFloor, NotLater}
+use Rattle.mav_sign.specs.declared.admission.Admit.TheVariants.{TooOld, TooManyStreams}
 use Rattle.mav_sign.specs.History.{next_in, answer_to}
 use Rattle.mav_sign.specs.Endpoints.{frames_of}
 use Rattle.plan_items.specs.declared.items.Item.{Item}
@@ -24,14 +26,17 @@ use Rattle.plan_upload.specs.Kinds.{clear_number}
 use Rattle.plan_upload.specs.Refusals.{upload_refusal, refusal}
 use Rattle.plan_upload.specs.Station.{Operation}
 use Rattle.plan_safety.specs.World as world
-use Rattle.plan_safety.specs.World.{Begins, Clears, Gets, Cancels, Hands_out, Drone_ticks, Station_ticks, To_drone, To_station, Speaks, Drone_waits, Station_waits, Restarts}
+use Rattle.plan_safety.specs.World.{Begins, Clears, Gets, Cancels, Hands_out, Drone_ticks, Station_ticks, To_drone}
+use Rattle.plan_safety.specs.World.{To_station, Speaks, Drone_waits, Station_waits, Restarts}
 use Rattle.mav_nodes.specs.Links.{Done, Outcome}
 use Rattle.mav_nodes.specs.LowBounds.{stored_low}
 use Rattle.mav_nodes.specs.Restarts.{restarted_drone}
 use Rattle.mav_nodes.specs.Payloads.{plan_in}
 use Rattle.mav_nodes.specs.Steps.{hears}
-use Rattle.mav_nodes.specs.News.{NodeEvent, Sends, Installs, Empties, Drops, Ends, Ends_command, Gives_param, Ends_params, Reaches, Captures, Ends_file}
-use Rattle.mav_nodes.specs.Nodes.{DroneSide, StationSide, drone_rules, station_rules, station_cancels, station_clears, station_gets, station_commands, station_lists_params}
+use Rattle.mav_nodes.specs.News.{NodeEvent, Sends, Installs, Empties, Drops, Ends, Ends_command, Gives_param}
+use Rattle.mav_nodes.specs.News.{Ends_params, Reaches, Captures, Ends_file}
+use Rattle.mav_nodes.specs.Nodes.{DroneSide, StationSide, drone_rules, station_rules, station_cancels, station_clears}
+use Rattle.mav_nodes.specs.Nodes.{station_gets, station_commands, station_lists_params}
 use Rattle.scenario_lines.specs.declared.lines.Line.{Line}
 use Rattle.scenario_lines.specs.declared.lines.Line.TheVariants as line
 use Rattle.fleet_report.specs.Events.{Event, Restarted}
@@ -39,7 +44,9 @@ use Rattle.node_reports.specs.Nodes.{Node, Drone, Station, node_name}
 use Rattle.node_reports.specs.Calls.{as_drone, as_station, node_beats, node_ticks, node_flies}
 use Rattle.node_reports.specs.Reporting.{reported_by}
 use Rattle.fleet_world.specs.WorldState.{WorldState, stream_of, is_named, is_drone_named, is_station_named}
-use Rattle.fleet_world.specs.Steps.{Step, StepError, packets_in, node_does, given_to, given_to_all, delivers, station_line, restart_line, orders, upload_begins, asks, command_busy, params_busy, after_line, calls, locates}
+use Rattle.fleet_world.specs.Steps.{Step, StepError, packets_in, node_does, given_to, given_to_all, delivers}
+use Rattle.fleet_world.specs.Steps.{station_line, restart_line, orders, upload_begins, asks, command_busy, params_busy}
+use Rattle.fleet_world.specs.Steps.{after_line, calls, locates}
 use Rattle.fleet_world.specs.Scenario.{ScenarioError, Played, at_start, line_played, lines_played}
 use Rattle.scenario_lines.specs.FileLines.{whole_lines, unfinished, without_cr}
 use Rattle.fleet_world.specs.Authentic.{line_done}
@@ -94,8 +101,8 @@ abbrev pub signed_at : Option SignatureBlock → ℕ
 signed_at None = 0
 signed_at (Some block) = block.stamp
 
--- a frame that the node of this stream sends, and the message of the mission protocol that it carries, if any: one that
--- carries none is an event of its own, and the node waits until the timestamp that it is signed at
+-- a frame that the node of this stream sends, and the message of the mission protocol that it carries, if any: one
+-- that carries none is an event of its own, and the node waits until the timestamp that it is signed at
 abbrev pub speaks : (ℕ → world.Event) → Stream → Packet → Option PlanMsg → List world.Event
 speaks wait me packet None = wait (signed_at packet.block) ∷ Speaks me ∷ []
 speaks wait me packet (Some message) = []
@@ -149,7 +156,8 @@ if_sent (Some index) events = events index
 abbrev pub hearing : ℕ → List Packet → Node → Packet → List world.Event
 hearing clock sent a p =
     if_admitted (answer_to (link_of a).key (link_of a).history p)
-    (if_plan (plan_in p.id p.payload) (if_sent (index_of (encoding p) sent) (λ index. moves clock a (comes_to a index))))
+    (if_plan (plan_in p.id p.payload) (if_sent (index_of (encoding p) sent)
+    (λ index. moves clock a (comes_to a index))))
 
 -- an order to a station; a refused one changes nothing
 abbrev pub ordering : ℕ → StationSide → Option OpFault → world.Event → List world.Event
@@ -222,11 +230,18 @@ module _ (number : ℕ) where
 
   -- a call that leads to this step is one action, if it is done
   abbrev pub acts : List world.Event → List Order → Result Step StepError → List Action
-  acts events orders (Ok t) = record { number = number; events = events; orders = orders; report = t.events; state = t.state } ∷ []
+  acts events orders (Ok t) = record {
+    number = number;
+    events = events;
+    orders = orders;
+    report = t.events;
+    state = t.state;
+  } ∷ []
   acts events orders (Err error) = []
 
   -- the node at index `k` hears a frame, and then what follows
-  abbrev pub hears_then : WorldState → ℕ → Node → Packet → Outcome Node → (WorldState → Node → List Action) → List Action
+  abbrev pub hears_then : WorldState → ℕ → Node → Packet → Outcome Node → (WorldState → Node → List Action)
+      → List Action
   hears_then s k a p None next = []
   hears_then s k a p (Some d) next = record {
     number = number;
@@ -248,7 +263,8 @@ module _ (number : ℕ) where
   -- a tick, and a HEARTBEAT
   abbrev pub ticked : WorldState → ℕ → Node → List Action
   ticked s k a =
-      acts (moves s.clock a (ticks a) ++ spoken_in a (node_ticks s.clock a)) [] (node_does s k (node_name a) (node_ticks s.clock a))
+      acts (moves s.clock a (ticks a) ++ spoken_in a (node_ticks s.clock a)) []
+      (node_does s k (node_name a) (node_ticks s.clock a))
 
   abbrev pub beaten : WorldState → ℕ → Node → List Action
   beaten s k a = acts (spoken_in a (node_beats s.clock a)) [] (node_does s k (node_name a) (node_beats s.clock a))
@@ -260,7 +276,8 @@ module _ (number : ℕ) where
   -- so many ticks of the drone of a name
   abbrev pub flight_actions : ℕ → Name → WorldState → List Action
   flight_actions zero drone s = []
-  flight_actions (suc n) drone s = and_next (calls s drone (node_flies s.clock)) (at_node s drone simmed) (flight_actions n drone)
+  flight_actions (suc n) drone s = and_next (calls s drone (node_flies s.clock)) (at_node s drone simmed)
+      (flight_actions n drone)
 
   -- ---- of a drone that starts again
 
@@ -297,13 +314,15 @@ module _ (number : ℕ) where
   -- to `n` nodes, from index `k` on
   abbrev pub row_given : WorldState → ℕ → ℕ → Packet → List Action
   row_given s k zero p = []
-  row_given s k (suc n) p = and_next (given_to s k p (slice_get s.nodes k)) (frame_given s k p (slice_get s.nodes k)) (λ t. row_given t (k + 1) n p)
+  row_given s k (suc n) p = and_next (given_to s k p (slice_get s.nodes k)) (frame_given s k p (slice_get s.nodes k))
+      (λ t. row_given t (k + 1) n p)
 
   -- the next frame of a flow, if there is one, to all nodes; and then what follows
   abbrev pub flown : WorldState → Option Packet → (WorldState → List Action) → List Action
   flown s None next = []
   flown s (Some p) next =
-      and_next (given_to_all (record s { given = s.given + 1 }) p) (row_given (record s { given = s.given + 1 }) 0 (length s.nodes) p) next
+      and_next (given_to_all (record s { given = s.given + 1 }) p)
+      (row_given (record s { given = s.given + 1 }) 0 (length s.nodes) p) next
 
   -- at most `k` frames
   abbrev pub flow_actions : ℕ → WorldState → List Action
@@ -366,13 +385,15 @@ module _ (number : ℕ) where
   calls_of s (line.Items n first) = []
   calls_of s line.Empty = []
   calls_of s (line.Begin station drone kind) =
-      to_station (station_line s) station (λ k a. upload_at (station_line s) drone kind (upload_refusal a.core (number_of kind) s.draft) k a)
+      to_station (station_line s) station (λ k a. upload_at (station_line s) drone kind
+      (upload_refusal a.core (number_of kind) s.draft) k a)
   calls_of s (line.Cancel station) = to_station (station_line s) station (cancel_at (station_line s))
   calls_of s (line.Clear station drone kind) =
       to_station (station_line s) station (λ k a. clear_at (station_line s) drone kind (refusal a.core) k a)
   calls_of s (line.Get station drone kind) =
       to_station (station_line s) station (λ k a. get_at (station_line s) drone kind (refusal a.core) k a)
-  calls_of s (line.Command station drone which word) = to_station (station_line s) station (command_at (station_line s) drone which word)
+  calls_of s (line.Command station drone which word) =
+      to_station (station_line s) station (command_at (station_line s) drone which word)
   calls_of s (line.Params station drone) = to_station (station_line s) station (params_at (station_line s) drone)
   calls_of s (line.Heartbeat node) = at_node s node beaten
   calls_of s (line.Deliver which node) = delivered s which node (slice_get s.sent (which - 1))
@@ -410,16 +431,19 @@ abbrev pub lines_actions : Played → ℕ → List (List ℕ) → List Action
 lines_actions p number [] = []
 lines_actions p number (raw ∷ more) =
     unless_stopped p.stop
-    (line_actions number p.state (line_done p.state number raw (without_cr raw)) ++ lines_actions (line_played p number raw) (number + 1) more)
+    (line_actions number p.state (line_done p.state number raw (without_cr raw))
+    ++ lines_actions (line_played p number raw) (number + 1) more)
 
 -- of a last line without LF
 abbrev pub last_actions : Bool → Played → ℕ → List ℕ → List Action
 last_actions false p number rest = []
 last_actions true p number [] = []
-last_actions true p number (b ∷ bs) = unless_stopped p.stop (line_actions number p.state (line_done p.state number (b ∷ bs) (b ∷ bs)))
+last_actions true p number (b ∷ bs) = unless_stopped p.stop
+    (line_actions number p.state (line_done p.state number (b ∷ bs) (b ∷ bs)))
 
 -- of a scenario's bytes under a key; `ended` says whether the input ended after them
 abbrev pub actions_of : List ℕ → Bool → List ℕ → List Action
 actions_of key ended bytes =
     lines_actions (at_start key) 1 (whole_lines bytes)
-    ++ last_actions ended (lines_played (at_start key) 1 (whole_lines bytes)) (length (whole_lines bytes) + 1) (unfinished bytes)
+    ++ last_actions ended (lines_played (at_start key) 1 (whole_lines bytes)) (length (whole_lines bytes) + 1)
+    (unfinished bytes)

@@ -3,7 +3,8 @@ use Rattle.std.specs.Prelude.{ℕ, ◌≡◌, ◌≤◌, ◌⊎◌, true, List, 
 use Rattle.mav_names.specs.declared.names.Name.{Name}
 use Rattle.mav_names.specs.declared.names.Stream.{Stream}
 use Rattle.plan_upload.specs.Addresses.{node_of}
-use Rattle.plan_safety.specs.World.{Event, Begins, Clears, Gets, Cancels, Hands_out, Drone_ticks, Station_ticks, To_drone, To_station, Speaks, Drone_waits, Station_waits, Restarts}
+use Rattle.plan_safety.specs.World.{Event, Begins, Clears, Gets, Cancels, Hands_out, Drone_ticks, Station_ticks}
+use Rattle.plan_safety.specs.World.{To_drone, To_station, Speaks, Drone_waits, Station_waits, Restarts}
 use Rattle.scenario_lines.specs.declared.lines.Line.{Line}
 use Rattle.scenario_lines.specs.declared.lines.Line.TheVariants as line
 use Rattle.fleet_world.specs.WorldState.{WorldState, stream_of}
@@ -52,8 +53,8 @@ Talks me e = e ≡ Speaks me
 abbrev pub Hears : Stream → Event → Type 0
 Hears me e = Gives me e ⊎ Talks me e
 
--- a sent frame comes to a node of this name, once; or, if the frame isn't of the mission protocol, the node sends messages
--- of other services in reply
+-- a sent frame comes to a node of this name, once; or, if the frame isn't of the mission protocol, the node sends
+-- messages of other services in reply
 abbrev pub HearsOne : Name → List Event → Type 0
 HearsOne name es = AtMostOne (Of name Gives) es ⊎ EachEvent (Of name Talks) es
 
@@ -87,7 +88,8 @@ pub record Flies (name : Name) (ticks : ℕ) (es : List Event) : Type 0 where
 -- the events of a line in a state
 abbrev pub Causes : WorldState → Line → List Event → Type 0
 -- an order: that one, once, and for an upload of the draft
-Causes s (line.Begin station drone kind) es = AtMostOne (Of station (λ me e. e ≡ Begins me (stream_of drone) kind s.draft)) es
+Causes s (line.Begin station drone kind) es =
+    AtMostOne (Of station (λ me e. e ≡ Begins me (stream_of drone) kind s.draft)) es
 Causes s (line.Cancel station) es = AtMostOne (Of station (λ me e. e ≡ Cancels me)) es
 Causes s (line.Clear station drone kind) es = AtMostOne (Of station (λ me e. e ≡ Clears me (stream_of drone) kind)) es
 Causes s (line.Get station drone kind) es = AtMostOne (Of station (λ me e. e ≡ Gets me (stream_of drone) kind)) es

@@ -4,11 +4,13 @@ use Rattle.mav_names.specs.declared.names.Name.{Name}
 use Rattle.mav_names.specs.declared.names.Stream.{Stream}
 use Rattle.plan_items.specs.declared.items.Item.{Item}
 use Rattle.plan_upload.specs.Addresses.{node_of}
-use Rattle.plan_upload.specs.Station.{Told, Told_installed, Told_not_installed, Told_unknown, Told_cleared, Told_got, Told_ended}
+use Rattle.plan_upload.specs.Station.{Told, Told_installed, Told_not_installed, Told_unknown, Told_cleared, Told_got}
+use Rattle.plan_upload.specs.Station.{Told_ended}
 use Rattle.plan_safety.specs.Frames.{Frame}
 use Rattle.plan_safety.specs.Store.{StoreEvent, Installed, Ended}
 use Rattle.plan_safety.specs.World.{Nodes}
-use Rattle.plan_safety.specs.History.{Step, step, installs as installs_upload, uploads, tally, Installation, GotHeld, NotInstalledBy, UnknownBy, ClearedBy, EndedBy}
+use Rattle.plan_safety.specs.History.{Step, step, installs as installs_upload, uploads, tally, Installation, GotHeld}
+use Rattle.plan_safety.specs.History.{NotInstalledBy, UnknownBy, ClearedBy, EndedBy}
 use Rattle.fleet_report.specs.Events as report
 use Rattle.fleet_safety.specs.Actions.{Action}
 use Rattle.fleet_safety.specs.Safe.{Upload, upload, uploads_by, report_of, orders_of, history_of, steps_in}
@@ -59,9 +61,10 @@ newest [] = None
 newest (u ∷ []) = Some u
 newest (u ∷ v ∷ us) = newest (v ∷ us)
 
--- a line `install` is true: the plan is that of the station's latest upload, which was fully transmitted, and is installed
--- once in the whole history
-pub record InstallIsTrue (n : Nodes) (actions : List Action) (index : ℕ) (drone : Name) (kind : ℕ) (plan : List Item) (by : Name) : Type 0 where
+-- a line `install` is true: the plan is that of the station's latest upload, which was fully transmitted, and is
+-- installed once in the whole history
+pub record InstallIsTrue (n : Nodes) (actions : List Action) (index : ℕ) (drone : Name) (kind : ℕ) (plan : List Item)
+    (by : Name) : Type 0 where
   pub reported_by : ReportedBy actions index
   pub stream : Stream
   pub drone_is : node_of stream ≡ drone
@@ -72,18 +75,22 @@ pub record InstallIsTrue (n : Nodes) (actions : List Action) (index : ℕ) (dron
   pub means : Installation (history_of n reported_by.before) sent station stream kind plan
   -- it is the draft of the latest `begin` line that the station had accepted
   pub drafted : newest (uploads_by station (orders_of reported_by.before)) ≡ Some (upload stream kind plan)
-  pub once : tally installs_upload (history_of n actions) station (uploads (history_of n reported_by.before) station) ≡ 1
+  pub once : tally installs_upload (history_of n actions) station (uploads (history_of n reported_by.before) station)
+      ≡ 1
 
 -- what an operator may take from the lines of a report; `n` are the nodes of the scenario
 pub record LinesAreTrue (n : Nodes) (events : List report.Event) (actions : List Action) : Type 0 where
-  -- each line `outcome` is true: what is reported as installed was installed, and in the whole history once; what is reported
-  -- as not installed never is, before or after; a plan that was got is one that the drone held since the download began;
-  -- what is reported as cleared was emptied since the clear began; and an outcome is unknown only if since the upload
-  -- began the drone has started again, and answered code 1 after a cancel that was sent after the last item
+  -- each line `outcome` is true: what is reported as installed was installed, and in the whole history once; what is
+  -- reported as not installed never is, before or after; a plan that was got is one that the drone held since the
+  -- download began; what is reported as cleared was emptied since the clear began; and an outcome is unknown only if
+  -- since the upload began the drone has started again, and answered code 1 after a cancel that was sent after the
+  -- last item
   pub outcomes : (index : ℕ) (station : Name) (told : Told) → slice_get events index ≡ Some (report.Ended station told)
       → OutcomeIsTrue n actions index station told
-  -- each line `install` is: the plan is the draft of the station's latest accepted `begin` line, which it has fully transmitted
-  pub installs : (index : ℕ) (drone : Name) (kind : ℕ) (plan : List Item) (by : Name) → slice_get events index ≡ Some (report.Installed drone kind plan by)
+  -- each line `install` is: the plan is the draft of the station's latest accepted `begin` line, which it has fully
+  -- transmitted
+  pub installs : (index : ℕ) (drone : Name) (kind : ℕ) (plan : List Item) (by : Name)
+      → slice_get events index ≡ Some (report.Installed drone kind plan by)
       → InstallIsTrue n actions index drone kind plan by
   -- no upload is installed twice
   pub once : (station : Stream) (number : ℕ) → tally installs_upload (history_of n actions) station number ≤ 1

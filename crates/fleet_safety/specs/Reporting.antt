@@ -1,6 +1,6 @@
 -- What a report says of an execution of the world in which messages alone are exchanged: changes of plans, the
--- messages of the mission protocol that were sent, the ends of operations, calls that were refused, and drones that start
--- again.
+-- messages of the mission protocol that were sent, the ends of operations, calls that were refused, and drones that
+-- start again.
 -- Nothing here speaks of scenario lines or of datagrams.
 use Rattle.std.specs.Prelude.{ℕ, ◌&&◌, nat_lt, if◌then◌else◌, List, [], ◌∷◌, ◌++◌, length, Option, Some, None}
 use Rattle.mav_names.specs.declared.names.Name.{Name}
@@ -13,13 +13,15 @@ use Rattle.plan_upload.specs.Addresses.{node_of}
 use Rattle.plan_upload.specs.Station.{Told}
 use Rattle.plan_upload.specs.Refusals.{upload_refusal, refusal}
 use Rattle.plan_safety.specs.Frames.{Frame}
-use Rattle.plan_safety.specs.Store.{StoreEvent, Upload_begun, Installed as Installs, Clear_begun, Cleared, Get_begun, Shown, Cancelled, Ended as Ends, Restarted as Restarts}
+use Rattle.plan_safety.specs.Store.{StoreEvent, Upload_begun, Installed as Installs, Clear_begun, Cleared, Get_begun}
+use Rattle.plan_safety.specs.Store.{Shown, Cancelled, Ended as Ends, Restarted as Restarts}
 use Rattle.plan_safety.specs.History.{Step}
 use Rattle.plan_safety.specs.World as world
 use Rattle.plan_safety.specs.World.{Nodes, World, happens}
 use Rattle.mav_messages.specs.Plans.{plan_of}
 use Rattle.fleet_report.specs.Events as report
-use Rattle.fleet_report.specs.Events.{Dropped, Missing, Command_ended, Params_ended, Param_given, Command_refused, Params_refused, Reached, Captured, Located}
+use Rattle.fleet_report.specs.Events.{Dropped, Missing, Command_ended, Params_ended, Param_given, Command_refused}
+use Rattle.fleet_report.specs.Events.{Params_refused, Reached, Captured, Located}
 
 -- what a report says of the mission protocol
 pub data ProtocolEvent : Type 0 where
@@ -35,8 +37,8 @@ abbrev pub sent_seen : ℕ → Name → Option PlanMsg → List ProtocolEvent
 sent_seen number from None = []
 sent_seen number from (Some m) = Sent number from m ∷ []
 
--- what is seen of an event. Frames that were dropped or are missing, those with another message, and what is reported of
--- commands and parameters aren't of the protocol
+-- what is seen of an event. Frames that were dropped or are missing, those with another message, and what is reported
+-- of commands and parameters aren't of the protocol
 abbrev pub event_seen : report.Event → List ProtocolEvent
 event_seen (report.Sent number packet message) = sent_seen number packet.from (plan_of message)
 event_seen (report.Installed drone kind items by) = Installed drone kind items by ∷ []
@@ -100,7 +102,8 @@ frame_reported number from (Some m) = Sent number (node_of from) m ∷ []
 abbrev pub frames_reported : ℕ → List Frame → List ProtocolEvent
 frames_reported before [] = []
 frames_reported before (f ∷ fs) =
-    if nat_lt before (length (f ∷ fs)) then frames_reported before fs ++ frame_reported (length (f ∷ fs)) f.from f.message else []
+    if nat_lt before (length (f ∷ fs)) then frames_reported before fs
+    ++ frame_reported (length (f ∷ fs)) f.from f.message else []
 
 -- why a call of a station was refused
 abbrev pub refusal_reported : Stream → Option OpFault → List ProtocolEvent
@@ -109,10 +112,12 @@ refusal_reported station (Some why) = Refused (node_of station) why ∷ []
 
 -- a call that a station of the fleet refuses, for a drone of the fleet
 abbrev pub call_refused : Nodes → Stream → Stream → Option OpFault → List ProtocolEvent
-call_refused n station drone why = if n.is_station station && n.is_drone drone then refusal_reported station why else []
+call_refused n station drone why = if n.is_station station && n.is_drone drone then refusal_reported station why
+    else []
 
 abbrev pub refused_reported : Nodes → World → world.Event → List ProtocolEvent
-refused_reported n w (world.Begins s d kind plan) = call_refused n s d (upload_refusal (w.station s).state (number_of kind) plan)
+refused_reported n w (world.Begins s d kind plan) =
+    call_refused n s d (upload_refusal (w.station s).state (number_of kind) plan)
 refused_reported n w (world.Clears s d kind) = call_refused n s d (refusal (w.station s).state)
 refused_reported n w (world.Gets s d kind) = call_refused n s d (refusal (w.station s).state)
 refused_reported n w (world.Cancels s) = []
@@ -138,8 +143,8 @@ abbrev pub reported : Nodes → World → List world.Event → List ProtocolEven
 reported n w [] = []
 reported n w (e ∷ es) = reported_in n w e ++ reported n (happens n w e) es
 
--- what a report says of plans: the installations, the clears, the drones that start again and the ends of operations, without
--- the frames
+-- what a report says of plans: the installations, the clears, the drones that start again and the ends of operations,
+-- without the frames
 abbrev pub plan_lines : List ProtocolEvent → List ProtocolEvent
 plan_lines [] = []
 plan_lines (Sent number from m ∷ es) = plan_lines es

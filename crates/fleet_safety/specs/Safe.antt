@@ -1,5 +1,5 @@
--- The main theorem over scenarios: the actions of a scenario are an execution of the world of messages, and so one of the
--- abstract mission store.
+-- The main theorem over scenarios: the actions of a scenario are an execution of the world of messages, and so one of
+-- the abstract mission store.
 use Rattle.std.specs.Prelude.{ℕ, ◌≡◌, ◌<◌, ◌+◌, ◌==◌, ◌&&◌, ◌↔◌, if◌then◌else◌, List, [], ◌∷◌, ◌++◌, Some, slice_get}
 use Rattle.mav_nodes.specs.Nodes.{DroneSide}
 use Rattle.mav_names.specs.declared.names.Stream.{Stream}
@@ -8,7 +8,8 @@ use Rattle.plan_upload.specs.Addresses.{node_of, same_stream}
 use Rattle.plan_upload.specs.Plans.{plan_at}
 use Rattle.plan_safety.specs.World as world
 use Rattle.plan_safety.specs.World.{Nodes, Start, World, first_world}
-use Rattle.plan_safety.specs.Store.{StoreEvent, first_store, Upload_begun, Installed, Clear_begun, Cleared, Get_begun, Shown, Cancelled, Ended, Restarted}
+use Rattle.plan_safety.specs.Store.{StoreEvent, first_store, Upload_begun, Installed, Clear_begun, Cleared, Get_begun}
+use Rattle.plan_safety.specs.Store.{Shown, Cancelled, Ended, Restarted}
 use Rattle.plan_safety.specs.Safety.{IsExecution}
 use Rattle.plan_safety.specs.History.{Step, store_of, IsHistory, IsHeld, Uploaded, final, history}
 use Rattle.scenario_lines.specs.LineContext.{has_drone, has_station}
@@ -18,7 +19,8 @@ use Rattle.fleet_world.specs.WorldState.{WorldState, empty_state, names_of}
 use Rattle.fleet_world.specs.Scenario.{Played, at_start, lines_played}
 use Rattle.scenario_lines.specs.FileLines.{whole_lines}
 use Rattle.fleet_safety.specs.Reporting.{seen, reported}
-use Rattle.fleet_safety.specs.Actions.{Action, lines_actions, Order, Accepts_upload, Accepts_clear, Accepts_get, Accepts_cancel}
+use Rattle.fleet_safety.specs.Actions.{Action, lines_actions, Order, Accepts_upload, Accepts_clear, Accepts_get}
+use Rattle.fleet_safety.specs.Actions.{Accepts_cancel}
 
 -- the nodes that were named, each with its stream: all sign on link 0
 abbrev pub nodes_of : List Node → Nodes
@@ -50,7 +52,8 @@ abbrev pub state_after : WorldState → List Action → WorldState
 state_after s [] = s
 state_after s (a ∷ actions) = state_after a.state actions
 
--- what these actions lead to in the world of messages, and what the abstract mission store goes through in them, the newest first
+-- what these actions lead to in the world of messages, and what the abstract mission store goes through in them, the
+-- newest first
 abbrev pub world_after : Nodes → List Action → World
 world_after n actions = final n (first_world start) (events_of actions)
 
@@ -99,7 +102,8 @@ uploads_by s (Accepts_get station drone kind ∷ os) = uploads_by s os
 uploads_by s (Accepts_cancel station ∷ os) = uploads_by s os
 
 -- the station's upload with this number among orders, counted from 1
-pub record IsTheUpload (os : List Order) (s : Stream) (number : ℕ) (drone : Stream) (kind : ℕ) (plan : List Item) : Type 0 where
+pub record IsTheUpload (os : List Order) (s : Stream) (number : ℕ) (drone : Stream) (kind : ℕ)
+    (plan : List Item) : Type 0 where
   pub index : ℕ
   pub number_is : number ≡ index + 1
   pub is : slice_get (uploads_by s os) index ≡ Some (upload drone kind plan)
@@ -135,7 +139,8 @@ pub record Safe (key : List ℕ) (bytes : List ℕ) (p : Played) (actions : List
   pub lines : (before after : List (List ℕ)) → whole_lines bytes ≡ before ++ after
       → LeadsTo key (lines_played (at_start key) 1 before) (lines_actions (at_start key) 1 before) actions
   -- each of them is safe;
-  pub each : (before : List Action) (a : Action) (later : List Action) → actions ≡ before ++ a ∷ later → IsSafe (nodes_of p.state.nodes) before a
+  pub each : (before : List Action) (a : Action) (later : List Action) → actions ≡ before ++ a ∷ later
+      → IsSafe (nodes_of p.state.nodes) before a
   -- their events are, one by one, an execution of the abstract mission store, with the same plans after each;
   pub execution : IsExecution (nodes_of p.state.nodes) (first_world start) first_store (events_of actions)
   -- so what the store goes through is one of its histories;
@@ -144,4 +149,5 @@ pub record Safe (key : List ℕ) (bytes : List ℕ) (p : Played) (actions : List
   pub orders : orders_in (history_of (nodes_of p.state.nodes) actions) ≡ orders_of actions
   -- and the number-th upload of a station is that of the number-th `begin` line that it accepted, with the draft there
   pub uploads : (s : Stream) (number : ℕ) (drone : Stream) (kind : ℕ) (plan : List Item)
-      → Uploaded (history_of (nodes_of p.state.nodes) actions) s number drone kind plan ↔ IsTheUpload (orders_of actions) s number drone kind plan
+      → Uploaded (history_of (nodes_of p.state.nodes) actions) s number drone kind plan
+      ↔ IsTheUpload (orders_of actions) s number drone kind plan

@@ -9,5 +9,7 @@ ghost use Rattle.fleet_safety.specs.Meaning.{LinesAreTrue};
 /// Each outcome that an authentic scenario's report has is true of an operation of that station, also
 /// one that is unknown, each installation is that of one upload, and no upload is installed twice.
 pub fn every_line_reported()
-    ensures { (key : List ℕ) → (ended : Bool) → (bytes : List ℕ) → Authentic key ended bytes → LinesAreTrue (nodes_of (played key ended bytes).state.nodes) (played key ended bytes).events (actions_of key ended bytes) }
+    ensures { (key : List ℕ) → (ended : Bool) → (bytes : List ℕ) → Authentic key ended bytes
+        → LinesAreTrue (nodes_of (played key ended bytes).state.nodes) (played key ended bytes).events
+        (actions_of key ended bytes) }
 {}

@@ -17,18 +17,22 @@ pub record IsPlayable (key : List ℕ) (bytes : List ℕ) : Type 0 where
   -- nor are the frames, the drones or the stations
   pub limits : (limit : Bound) → (played key true bytes).stop ≢ Some (Not_done (At_limit limit))
 
--- no port failed: by their counts no read failed, nor did a write, and the input never gave nothing a million times in a row
+-- no port failed: by their counts no read failed, nor did a write, and the input never gave nothing a million times in
+-- a row
 pub record NoFault (o : PortOutcome) : Type 0 where
   pub reads : ¬ o.failed
   pub gives : ¬ o.idled
   pub writes : ¬ o.refused
 
 -- it is done and the whole report was written, or memory ran out
-abbrev pub IsComplete : (key : List ℕ) (frames : Bool) (bytes : List ℕ) → (sent_before sent_after : Option (List ℕ)) → (code : ℕ) → Type 0
+abbrev pub IsComplete : (key : List ℕ) (frames : Bool) (bytes : List ℕ) → (sent_before sent_after : Option (List ℕ))
+    → (code : ℕ) → Type 0
 IsComplete key frames bytes sent_before sent_after code =
     ((code ≡ 0) × (sent_after ≡ append_known sent_before (whole_report frames (played key true bytes)))) ⊎ (code ≡ 7)
 
 -- completeness: if no port fails, an authentic scenario that can be played is played to its end
-abbrev pub Completes : (key : List ℕ) (frames : Bool) (o : PortOutcome) → (left_before sent_before sent_after : Option (List ℕ)) → (code : ℕ) → Type 0
+abbrev pub Completes : (key : List ℕ) (frames : Bool) (o : PortOutcome)
+    → (left_before sent_before sent_after : Option (List ℕ)) → (code : ℕ) → Type 0
 Completes key frames o left_before sent_before sent_after code =
-    (bytes : List ℕ) → left_before ≡ Some bytes → IsPlayable key bytes → Authentic key true bytes → NoFault o → IsComplete key frames bytes sent_before sent_after code
+    (bytes : List ℕ) → left_before ≡ Some bytes → IsPlayable key bytes → Authentic key true bytes → NoFault o
+    → IsComplete key frames bytes sent_before sent_after code

@@ -17,21 +17,24 @@ use Rattle.fleet_command.specs.Spec.{fleet_spec}
 -- bring no frame that verifies and wasn't sent
 pub record MainTheorem (key : List ℕ) (ended : Bool) (bytes : List ℕ) : Type 0 where
   -- its actions, line by line and call by call, are an execution of the abstract mission store, and the report has
-  -- exactly what that execution reports; after each action each drone's plan is the store's: empty, or exactly the plan
-  -- of one upload, which was installed, and which is the draft of one `begin` line
+  -- exactly what that execution reports; after each action each drone's plan is the store's: empty, or exactly the
+  -- plan of one upload, which was installed, and which is the draft of one `begin` line
   pub safe : Safe key bytes (played key ended bytes) (actions_of key ended bytes)
   -- and what the report says of uploads and downloads is true
-  pub lines : LinesAreTrue (nodes_of (played key ended bytes).state.nodes) (played key ended bytes).events (actions_of key ended bytes)
+  pub lines : LinesAreTrue (nodes_of (played key ended bytes).state.nodes) (played key ended bytes).events
+      (actions_of key ended bytes)
   -- and each uncontended upload of a valid plan is installed and acknowledged within its flow line
-  pub uploads : (lines : Lines) (upload : Upload) → IsUncontended key ended bytes lines upload → IsInstalled key ended bytes lines upload
-  -- and between two starts each drone does at most one command of each `command` line, and those of a station in the order of
-  -- its lines; a command that is given again is otherwise answered by the kept result
+  pub uploads : (lines : Lines) (upload : Upload) → IsUncontended key ended bytes lines upload
+      → IsInstalled key ended bytes lines upload
+  -- and between two starts each drone does at most one command of each `command` line, and those of a station in the
+  -- order of its lines; a command that is given again is otherwise answered by the kept result
   pub commands : EachCommandOnce key ended bytes
   -- which are the lines that stations accepted
   pub accepted : EachLineBegins key ended bytes
 
 -- one run: why it ended, the bytes that it took and what it wrote of them; and what holds of these bytes
-pub record Carries (key : List ℕ) (frames : Bool) (o : PortOutcome) (left_before left_after sent_before sent_after : Option (List ℕ)) (code : ℕ) : Type 0 where
+pub record Carries (key : List ℕ) (frames : Bool) (o : PortOutcome)
+    (left_before left_after sent_before sent_after : Option (List ℕ)) (code : ℕ) : Type 0 where
   pub end : Option RunEnd
   pub status : code ≡ code_of end
   pub run : Run (fleet_spec key frames) o left_before left_after sent_before sent_after end

@@ -1,6 +1,7 @@
--- Scenarios whose foreign bytes bring nothing that a node hadn't signed: each frame in a `noise` line that verifies under
--- the key had been sent before that line, with the same bytes. That is what signatures are trusted for.
-use Rattle.std.specs.Prelude.{ℕ, ◌≡◌, ◌+◌, ◌⊎◌, nat_lt, Bool, true, false, if◌then◌else◌, List, [], ◌∷◌, length, slice_get, Option, Some, None}
+-- Scenarios whose foreign bytes bring nothing that a node hadn't signed: each frame in a `noise` line that verifies
+-- under the key had been sent before that line, with the same bytes. That is what signatures are trusted for.
+use Rattle.std.specs.Prelude.{ℕ, ◌≡◌, ◌+◌, ◌⊎◌, nat_lt, Bool, true, false, if◌then◌else◌, List, [], ◌∷◌, length}
+use Rattle.std.specs.Prelude.{slice_get, Option, Some, None}
 use Rattle.mav_profile.specs.Messages.{extras_of}
 use Rattle.mav_profile.specs.Profile.{profile_definitions}
 use Rattle.mav_frame.specs.Packet.{Packet}
@@ -25,7 +26,8 @@ WasSent (q ∷ qs) p = (encoding q ≡ encoding p) ⊎ WasSent qs p
 -- each frame of the bytes that verifies was sent before
 abbrev pub AuthenticBytes : WorldState → List ℕ → Type 0
 AuthenticBytes s bytes =
-    (index : ℕ) (p : Packet) → slice_get (frames_of (final_parse (extras_of profile_definitions) false bytes)) index ≡ Some p
+    (index : ℕ) (p : Packet) → slice_get (frames_of (final_parse (extras_of profile_definitions) false bytes)) index
+    ≡ Some p
     → Verifies s.key p p.block → WasSent s.sent p
 
 abbrev pub AuthenticLine : WorldState → Line → Type 0
@@ -52,7 +54,8 @@ UnlessStopped (Some stop) T = Unit {0}
 abbrev pub HoldsOfLines : (WorldState → Option Line → Type 0) → Played → ℕ → List (List ℕ) → Type 0
 HoldsOfLines P p number [] = Unit {0}
 HoldsOfLines P p number (raw ∷ more) =
-    UnlessStopped p.stop (P p.state (line_done p.state number raw (without_cr raw)) × HoldsOfLines P (line_played p number raw) (number + 1) more)
+    UnlessStopped p.stop (P p.state (line_done p.state number raw (without_cr raw))
+    × HoldsOfLines P (line_played p number raw) (number + 1) more)
 
 -- and of a last line without LF
 abbrev pub HoldsOfLast : (WorldState → Option Line → Type 0) → Bool → Played → ℕ → List ℕ → Type 0
@@ -61,9 +64,11 @@ HoldsOfLast P true p number [] = Unit {0}
 HoldsOfLast P true p number (b ∷ bs) = UnlessStopped p.stop (P p.state (line_done p.state number (b ∷ bs) (b ∷ bs)))
 
 -- of the whole scenario, played under a key
-pub record HoldsOfEach (P : WorldState → Option Line → Type 0) (key : List ℕ) (ended : Bool) (bytes : List ℕ) : Type 0 where
+pub record HoldsOfEach (P : WorldState → Option Line → Type 0) (key : List ℕ) (ended : Bool)
+    (bytes : List ℕ) : Type 0 where
   pub lines : HoldsOfLines P (at_start key) 1 (whole_lines bytes)
-  pub last : HoldsOfLast P ended (lines_played (at_start key) 1 (whole_lines bytes)) (length (whole_lines bytes) + 1) (unfinished bytes)
+  pub last : HoldsOfLast P ended (lines_played (at_start key) 1 (whole_lines bytes)) (length (whole_lines bytes) + 1)
+      (unfinished bytes)
 
 abbrev pub AuthenticDone : WorldState → Option Line → Type 0
 AuthenticDone s None = Unit {0}

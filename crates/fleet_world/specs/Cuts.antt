@@ -20,8 +20,14 @@ AreWithin bytes (span ∷ spans) = (span.start ≤ span.end) × (span.end ≤ le
 -- those that are said to be signed are frames that verify under the key
 abbrev pub AreSigned : List ℕ → List ℕ → List Span → Type 0
 AreSigned key bytes [] = Unit {0}
-AreSigned key bytes (span ∷ spans) = (IsTrue span.signed → BytesVerify key (cut bytes span).1) × AreSigned key bytes spans
+AreSigned key bytes (span ∷ spans) = (IsTrue span.signed → BytesVerify key (cut bytes span).1)
+    × AreSigned key bytes spans
 
 -- the part that a frame takes after all bytes
 abbrev pub span_after : Name → Bool → List ℕ → List ℕ → Span
-span_after from signed bytes frame = record { from = from; start = length bytes; end = length bytes + length frame; signed = signed }
+span_after from signed bytes frame = record {
+  from = from;
+  start = length bytes;
+  end = length bytes + length frame;
+  signed = signed;
+}

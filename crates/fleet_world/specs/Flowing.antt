@@ -13,4 +13,5 @@ IsSender (Some node) packet answer = answer ≡ same_name (node_name node) packe
 -- the flow takes the index of a frame that was sent
 abbrev pub IsTaken : WorldView → Option ℕ → WorldView → Type 0
 IsTaken w None after = (length w.sent ≤ w.given) × (after ≡ w)
-IsTaken w (Some number) after = (number ≡ w.given) × (w.given < length w.sent) × (after ≡ record w { given = w.given + 1 })
+IsTaken w (Some number) after = (number ≡ w.given) × (w.given < length w.sent)
+    × (after ≡ record w { given = w.given + 1 })

@@ -1,11 +1,13 @@
 -- What a node does at a call or an order, and what the world reports of it.
-use Rattle.std.specs.Prelude.{ℕ, ◌+◌, nat_le, if◌then◌else◌, Bool, true, false, List, [], ◌∷◌, ◌++◌, length, slice_get, Option, Some, None, Ok, Err}
+use Rattle.std.specs.Prelude.{ℕ, ◌+◌, nat_le, if◌then◌else◌, Bool, true, false, List, [], ◌∷◌, ◌++◌, length, slice_get}
+use Rattle.std.specs.Prelude.{Option, Some, None, Ok, Err}
 use Rattle.std.specs.declared.result.Result.{Result}
 use Rattle.mav_names.specs.declared.names.Name.{Name}
 use Rattle.mav_nodes.specs.News.{NodeEvent}
 use Rattle.mav_nodes.specs.Links.{Outcome, done}
 use Rattle.mav_nodes.specs.Restarts.{drone_restarts}
-use Rattle.mav_nodes.specs.Nodes.{DroneSide, StationSide, station_obeys, order_refusal, command_refusal, params_refusal, file_refusal, order_plan}
+use Rattle.mav_nodes.specs.Nodes.{DroneSide, StationSide, station_obeys, order_refusal, command_refusal}
+use Rattle.mav_nodes.specs.Nodes.{params_refusal, file_refusal, order_plan}
 use Rattle.mav_nodes.specs.declared.orders.Order.{Order}
 use Rattle.mav_ftp.specs.declared.client.faults.FtpFault.{FtpFault}
 use Rattle.plan_items.specs.declared.plans.Plan.{Plan}
@@ -71,16 +73,20 @@ obeys_unless s k name node order (Some fault) = Ok (record { state = s; events =
 
 -- an order that a station's core refuses for that fault, that its services refuse since this command is open or since
 -- something is asked of parameters, or that it follows
-abbrev pub obeys_or : WorldState → ℕ → Name → StationSide → Order → Option OpFault → Option ℕ → Bool → Result Step StepError
-obeys_or s k name node order (Some why) command params = Ok (record { state = handed_back s (order_plan order); events = Refused name why ∷ [] })
+abbrev pub obeys_or : WorldState → ℕ → Name → StationSide → Order → Option OpFault → Option ℕ → Bool
+    → Result Step StepError
+obeys_or s k name node order (Some why) command params =
+    Ok (record { state = handed_back s (order_plan order); events = Refused name why ∷ [] })
 obeys_or s k name node order None (Some number) params = Ok (record { state = s; events = Command_refused name ∷ [] })
 obeys_or s k name node order None None true = Ok (record { state = s; events = Params_refused name ∷ [] })
 obeys_or s k name node order None None false = obeys_unless s k name node order (file_refusal node.services order)
 
 abbrev pub obeys : WorldState → ℕ → Name → StationSide → Order → Result Step StepError
 obeys s k name node order =
-    obeys_or s k name node order (order_refusal node.core order) (command_refusal node.services order) (params_refusal node.services order)
+    obeys_or s k name node order (order_refusal node.core order) (command_refusal node.services order)
+    (params_refusal node.services order)
 
 -- a drone starts again, and is reported by this name
 abbrev pub restarts_as : WorldState → ℕ → Name → DroneSide → Result Step StepError
-restarts_as s k name node = after_events (Restarted name ∷ []) (node_does s k (node_of node.link.me) (as_drone (drone_restarts s.key s.clock node)))
+restarts_as s k name node = after_events (Restarted name ∷ [])
+    (node_does s k (node_of node.link.me) (as_drone (drone_restarts s.key s.clock node)))

@@ -1,5 +1,6 @@
 -- What calls of a world promise: which state it is in after them, and what they report.
-use Rattle.std.specs.Prelude.{ℕ, ◌≡◌, ◌≢◌, Bool, true, false, List, [], ◌++◌, length, map, slice_get, slice_set, Option, Some, None, Ok, Err, IfOk, IfErr}
+use Rattle.std.specs.Prelude.{ℕ, ◌≡◌, ◌≢◌, Bool, true, false, List, [], ◌++◌, length, map, slice_get, slice_set}
+use Rattle.std.specs.Prelude.{Option, Some, None, Ok, Err, IfOk, IfErr}
 use Rattle.std.specs.declared.result.Result.{Result}
 use Rattle.std.specs.declared.alloc.Global.{Global}
 use Rattle.std.specs.declared.vec.Vec.{Vec}
@@ -8,14 +9,19 @@ use Rattle.mav_nodes.specs.News.{NodeEvent, shown, events_of}
 use Rattle.mav_nodes.specs.Links.{Outcome}
 use Rattle.mav_nodes.specs.Promises.{Did}
 use Rattle.mav_nodes.specs.declared.news.News.{News}
-use Rattle.mav_nodes.specs.Nodes.{StationSide, station_obeys, order_refusal, order_fault, command_refusal, params_refusal, file_refusal, order_plan}
+use Rattle.mav_nodes.specs.Nodes.{StationSide, station_obeys, order_refusal, order_fault, command_refusal}
+use Rattle.mav_nodes.specs.Nodes.{params_refusal, file_refusal, order_plan}
 use Rattle.mav_nodes.specs.declared.orders.Order.{Order}
 use Rattle.mav_nodes.specs.declared.faults.OrderFault.{OrderFault}
-use Rattle.mav_nodes.specs.declared.faults.OrderFault.TheVariants.{Begin as BeginFails, Op as OpFails, Command as CommandFails, Param as ParamFails, File as FileFails, Node as StationFails}
+use Rattle.mav_nodes.specs.declared.faults.OrderFault.TheVariants.{Begin as BeginFails, Op as OpFails}
+use Rattle.mav_nodes.specs.declared.faults.OrderFault.TheVariants.{Command as CommandFails, Param as ParamFails}
+use Rattle.mav_nodes.specs.declared.faults.OrderFault.TheVariants.{File as FileFails, Node as StationFails}
 use Rattle.mav_nodes.specs.declared.faults.NodeFault.{NodeFault}
 use Rattle.mav_nodes.specs.declared.faults.StartFault.{StartFault}
-use Rattle.mav_nodes.specs.declared.faults.StartFault.TheVariants.{Store as StartStore, BadKept, NoMemory as NoStartMemory}
-use Rattle.mav_nodes.specs.declared.faults.NodeFault.TheVariants.{StampsSpent, Store as NodeStore, NoMemory as NoNodeMemory}
+use Rattle.mav_nodes.specs.declared.faults.StartFault.TheVariants.{Store as StartStore, BadKept}
+use Rattle.mav_nodes.specs.declared.faults.StartFault.TheVariants.{NoMemory as NoStartMemory}
+use Rattle.mav_nodes.specs.declared.faults.NodeFault.TheVariants.{StampsSpent, Store as NodeStore}
+use Rattle.mav_nodes.specs.declared.faults.NodeFault.TheVariants.{NoMemory as NoNodeMemory}
 use Rattle.plan_items.specs.Plans.{items_of}
 use Rattle.plan_upload.specs.declared.faults.OpFault.TheVariants.{NoMemory as NoOpMemory}
 use Rattle.fleet_report.specs.Events.{Refused, Command_refused, Params_refused, events_text}
@@ -40,7 +46,8 @@ NodeOutcome outcome seen news = Did outcome (λ node. IsNode node seen) [] news
 -- the node at an index, if there is one, did this
 abbrev pub Moved : List Node → ℕ → Outcome Node → Fleet → List News → Type 0
 Moved nodes index None fleet news = ⊥
-Moved nodes index (Some d) fleet news = IsFleet (slice_set nodes index d.node) fleet × (events_of news ≡ map shown d.events)
+Moved nodes index (Some d) fleet news = IsFleet (slice_set nodes index d.node) fleet
+    × (events_of news ≡ map shown d.events)
 
 abbrev pub FleetOutcome : List Node → ℕ → Option Node → (Node → Outcome Node) → Fleet → List News → Type 0
 FleetOutcome nodes index None call fleet news = IsFleet nodes fleet × (news ≡ [])
@@ -61,15 +68,18 @@ pub record Follows (node : StationSide) (order : Order) : Type 0 where
 
 -- a station refused an order or had no timestamp left for it: `Left` is what holds if nothing changed
 abbrev pub Refuses : ℕ → StationSide → Order → Type 0 → OrderFault → Type 0
-Refuses clock node order Left (BeginFails fault) = (order_refusal node.core order ≡ Some fault.why) × (order_plan order ≡ Some fault.plan) × Left
+Refuses clock node order Left (BeginFails fault) = (order_refusal node.core order ≡ Some fault.why)
+    × (order_plan order ≡ Some fault.plan) × Left
 Refuses clock node order Left (OpFails why) = (order_fault node.core order ≡ Some why) × Left
 Refuses clock node order Left (CommandFails busy) = (command_refusal node.services order ≡ Some busy.command) × Left
 Refuses clock node order Left (ParamFails busy) = (params_refusal node.services order ≡ true) × Left
 Refuses clock node order Left (FileFails fault) = (file_refusal node.services order ≡ Some fault) × Left
-Refuses clock node order Left (StationFails fault) = Follows node order × FailsBy fault (station_obeys clock order node)
+Refuses clock node order Left (StationFails fault) = Follows node order
+    × FailsBy fault (station_obeys clock order node)
 
 -- the station at an index has followed an order, or refused it, and nothing else of its fleet changed
-pub record HasOrdered (before : Fleet) (index : ℕ) (order : Order) (outcome : Result (Vec News Global) OrderFault) (after : Fleet) : Type 0 where
+pub record HasOrdered (before : Fleet) (index : ℕ) (order : Order) (outcome : Result (Vec News Global) OrderFault)
+    (after : Fleet) : Type 0 where
   pub done : IfOk outcome (λ news. (nodes : List Node) (node : StationSide) → IsFleet nodes before
       → slice_get nodes index ≡ Some (Station node)
       → Follows node order × Moved nodes index (as_station (station_obeys before.clock order node)) after news.items)
@@ -81,7 +91,8 @@ pub record HasOrdered (before : Fleet) (index : ℕ) (order : Order) (outcome : 
 -- ---- of what a node did
 
 -- these events of a node were reported: its frames are kept, and the report has the events
-pub record Reported (name : Name) (events : List NodeEvent) (kept more : List Kept) (before after : ReportState) : Type 0 where
+pub record Reported (name : Name) (events : List NodeEvent) (kept more : List Kept)
+    (before after : ReportState) : Type 0 where
   pub sent : more ≡ kept ++ map kept_as (packets_in events)
   pub report : after ≡ reports before (reported_by name (length kept) events)
 
@@ -107,10 +118,14 @@ IsStep (Err error) frames world report = ⊥
 
 -- what a refused order leaves, and what is reported of it
 abbrev pub RefusalReported : Name → OrderFault → WorldView → WorldView → ReportState → ReportState → Type 0
-RefusalReported station (BeginFails fault) w after before report = (after ≡ record w { draft = items_of fault.plan }) × (report ≡ reported before (Refused station fault.why))
-RefusalReported station (OpFails why) w after before report = (after ≡ w) × (report ≡ reported before (Refused station why)) × (why ≢ NoOpMemory)
-RefusalReported station (CommandFails busy) w after before report = (after ≡ w) × (report ≡ reported before (Command_refused station))
-RefusalReported station (ParamFails busy) w after before report = (after ≡ w) × (report ≡ reported before (Params_refused station))
+RefusalReported station (BeginFails fault) w after before report = (after ≡ record w { draft = items_of fault.plan })
+    × (report ≡ reported before (Refused station fault.why))
+RefusalReported station (OpFails why) w after before report = (after ≡ w)
+    × (report ≡ reported before (Refused station why)) × (why ≢ NoOpMemory)
+RefusalReported station (CommandFails busy) w after before report = (after ≡ w)
+    × (report ≡ reported before (Command_refused station))
+RefusalReported station (ParamFails busy) w after before report = (after ≡ w)
+    × (report ≡ reported before (Params_refused station))
 RefusalReported station (FileFails fault) w after before report = (after ≡ w) × (report ≡ before)
 RefusalReported station (StationFails fault) w after before report = ⊥
 
@@ -131,11 +146,13 @@ Quietly (Err error) frames world = ⊥
 -- a call does this step of the state that the world is in, and reports it
 abbrev pub Does : (WorldState → Result Step StepError) → WorldView → WorldView → ReportState → ReportState → Type 0
 Does step before after report_before report_after =
-    (state : WorldState) → IsState state before.frames before → WorldOutcome (step state) before.frames after report_before report_after
+    (state : WorldState) → IsState state before.frames before
+    → WorldOutcome (step state) before.frames after report_before report_after
 
 -- the same without an event
 abbrev pub DoesQuietly : (WorldState → Result Step StepError) → WorldView → WorldView → Type 0
-DoesQuietly step before after = (state : WorldState) → IsState state before.frames before → Quietly (step state) before.frames after
+DoesQuietly step before after = (state : WorldState) → IsState state before.frames before
+    → Quietly (step state) before.frames after
 
 -- it doesn't, for this cause
 abbrev pub Fails : (WorldState → Result Step StepError) → WorldView → WorldFault → Type 0

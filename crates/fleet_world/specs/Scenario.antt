@@ -1,5 +1,6 @@
 -- A scenario's bytes as lines, and what the lines lead to: the state, the report, and why it stopped.
-use Rattle.std.specs.Prelude.{ℕ, ◌+◌, nat_lt, Bool, true, false, if◌then◌else◌, List, [], ◌∷◌, ◌++◌, length, Option, Some, None, Ok, Err}
+use Rattle.std.specs.Prelude.{ℕ, ◌+◌, nat_lt, Bool, true, false, if◌then◌else◌, List, [], ◌∷◌, ◌++◌, length, Option}
+use Rattle.std.specs.Prelude.{Some, None, Ok, Err}
 use Rattle.std.specs.declared.result.Result.{Result}
 use Rattle.scenario_lines.specs.declared.faults.Reason.{Reason}
 use Rattle.scenario_lines.specs.declared.faults.Reason.TheVariants.{Long}
@@ -47,7 +48,8 @@ unless_stopped (Some stop) p next = p
 
 abbrev pub lines_played : Played → ℕ → List (List ℕ) → Played
 lines_played p number [] = p
-lines_played p number (raw ∷ more) = unless_stopped p.stop p (lines_played (line_played p number raw) (number + 1) more)
+lines_played p number (raw ∷ more) = unless_stopped p.stop p
+    (lines_played (line_played p number raw) (number + 1) more)
 
 -- under a key, which all nodes have
 abbrev pub at_start : List ℕ → Played

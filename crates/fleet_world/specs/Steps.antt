@@ -1,5 +1,6 @@
 -- What a scenario line does to the world: the state after it and its events, or why it isn't done.
-use Rattle.std.specs.Prelude.{ℕ, zero, suc, ◌+◌, ◌-◌, nat_lt, nat_le, if◌then◌else◌, List, [], ◌∷◌, ◌++◌, length, slice_get, slice_set, position, Option, Some, None, Ok, Err}
+use Rattle.std.specs.Prelude.{ℕ, zero, suc, ◌+◌, ◌-◌, nat_lt, nat_le, if◌then◌else◌, List, [], ◌∷◌, ◌++◌, length}
+use Rattle.std.specs.Prelude.{slice_get, slice_set, position, Option, Some, None, Ok, Err}
 use Rattle.std.specs.declared.result.Result.{Result}
 use Rattle.mav_names.specs.declared.names.Name.{Name}
 use Rattle.mav_frame.specs.Packet.{Packet}
@@ -9,23 +10,30 @@ use Rattle.plan_upload.specs.Kinds.{clear_number}
 use Rattle.plan_upload.specs.declared.faults.OpFault.{OpFault}
 use Rattle.plan_upload.specs.Addresses.{node_of, same_name}
 use Rattle.plan_upload.specs.Refusals.{upload_refusal, refusal}
-use Rattle.mav_nodes.specs.News.{NodeEvent, Sends, Installs, Empties, Drops, Ends, Ends_command, Gives_param, Ends_params, Reaches, Captures, Ends_file}
+use Rattle.mav_nodes.specs.News.{NodeEvent, Sends, Installs, Empties, Drops, Ends, Ends_command, Gives_param}
+use Rattle.mav_nodes.specs.News.{Ends_params, Reaches, Captures, Ends_file}
 use Rattle.mav_nodes.specs.Links.{Outcome}
 use Rattle.command_proto.specs.Commander.{open_command}
 use Rattle.param_proto.specs.Client.{Operation as ParamOperation}
 use Rattle.mav_nodes.specs.Restarts.{drone_restarts}
-use Rattle.mav_nodes.specs.Nodes.{DroneSide, StationSide, new_drone, new_station, station_begins, station_cancels, station_clears, station_gets, station_commands, station_lists_params}
+use Rattle.mav_nodes.specs.Nodes.{DroneSide, StationSide, new_drone, new_station, station_begins, station_cancels}
+use Rattle.mav_nodes.specs.Nodes.{station_clears, station_gets, station_commands, station_lists_params}
 use Rattle.scenario_lines.specs.declared.lines.Line.{Line}
-use Rattle.scenario_lines.specs.declared.lines.Line.TheVariants.{Blank, Drone as DroneLine, Station as StationLine, Item as OneItem, Items, Empty, Begin, Cancel, Clear, Get, Command, Params, Heartbeat, Deliver, Flow, Noise, Tick, Clock, Restart, Sim, WhereIs}
+use Rattle.scenario_lines.specs.declared.lines.Line.TheVariants.{Blank, Drone as DroneLine, Station as StationLine}
+use Rattle.scenario_lines.specs.declared.lines.Line.TheVariants.{Item as OneItem, Items, Empty, Begin, Cancel, Clear}
+use Rattle.scenario_lines.specs.declared.lines.Line.TheVariants.{Get, Command, Params, Heartbeat, Deliver, Flow, Noise}
+use Rattle.scenario_lines.specs.declared.lines.Line.TheVariants.{Tick, Clock, Restart, Sim, WhereIs}
 use Rattle.scenario_lines.specs.ItemRows.{items_from}
-use Rattle.fleet_report.specs.Events.{Event, Missing, Restarted, Refused, Command_refused, Params_refused, Located, plan_text}
+use Rattle.fleet_report.specs.Events.{Event, Missing, Restarted, Refused, Command_refused, Params_refused, Located}
+use Rattle.fleet_report.specs.Events.{plan_text}
 use Rattle.node_reports.specs.Nodes.{Node, Drone, Station, node_name}
 use Rattle.node_reports.specs.Calls.{as_drone, as_station, node_receives, node_beats, node_ticks, node_flies}
 use Rattle.node_reports.specs.Reporting.{reported_by}
 use Rattle.fleet_world.specs.declared.locations.Location.{Location}
 use Rattle.fleet_world.specs.declared.faults.Bound.{Bound}
 use Rattle.fleet_world.specs.declared.faults.Bound.TheVariants.{Frames, Drones, Stations, Restarts}
-use Rattle.fleet_world.specs.WorldState.{WorldState, stream_of, is_named, is_drone_named, is_station_named, drones_in, stations_in}
+use Rattle.fleet_world.specs.WorldState.{WorldState, stream_of, is_named, is_drone_named, is_station_named, drones_in}
+use Rattle.fleet_world.specs.WorldState.{stations_in}
 
 pub record Step : Type 0 where
   pub state : WorldState
@@ -107,7 +115,8 @@ calls s name call = calls_found s (position (is_named name) s.nodes) call
 abbrev pub given_to : WorldState → ℕ → Packet → Option Node → Result Step StepError
 given_to s k p None = rests s
 given_to s k p (Some node) =
-    if same_name (node_name node) p.from then rests s else node_does s k (node_name node) (node_receives s.clock (encoding p) node)
+    if same_name (node_name node) p.from then rests s
+    else node_does s k (node_name node) (node_receives s.clock (encoding p) node)
 
 -- it is given to `n` nodes, from index `k` on
 abbrev pub given_from : WorldState → ℕ → ℕ → Packet → Result Step StepError
@@ -142,7 +151,11 @@ flies (suc n) drone s = and_then (calls s drone (node_flies s.clock)) (flies n d
 
 -- where a drone is, and how many pictures it took since its start
 abbrev pub drone_location : DroneSide → Location
-drone_location n = record { x = n.services.sim.position.x; y = n.services.sim.position.y; captures = n.services.sim.captures }
+drone_location n = record {
+  x = n.services.sim.position.x;
+  y = n.services.sim.position.y;
+  captures = n.services.sim.captures;
+}
 
 abbrev pub location_of : Node → Option Location
 location_of (Drone n) = Some (drone_location n)
@@ -174,7 +187,8 @@ abbrev pub restarts_at : WorldState → ℕ → Option Node → Result Step Step
 restarts_at s k None = rests s
 restarts_at s k (Some (Station n)) = rests s
 restarts_at s k (Some (Drone n)) =
-    after_events (Restarted (node_of n.link.me) ∷ []) (node_does s k (node_of n.link.me) (as_drone (drone_restarts s.key s.clock n)))
+    after_events (Restarted (node_of n.link.me) ∷ [])
+    (node_does s k (node_of n.link.me) (as_drone (drone_restarts s.key s.clock n)))
 
 abbrev pub restarts_found : WorldState → Option ℕ → Result Step StepError
 restarts_found s None = rests s
@@ -205,7 +219,8 @@ orders s k node None outcome = node_does s k (node_of node.link.me) (as_station 
 abbrev pub upload_begins : WorldState → ℕ → StationSide → Name → ℕ → Option OpFault → Result Step StepError
 upload_begins s k node drone kind (Some why) = refuses s node why
 upload_begins s k node drone kind None =
-    node_does (record s { draft = [] }) k (node_of node.link.me) (as_station (station_begins s.clock (stream_of drone) kind s.draft node))
+    node_does (record s { draft = [] }) k (node_of node.link.me)
+    (as_station (station_begins s.clock (stream_of drone) kind s.draft node))
 
 -- the station at an index, and the one of a name, if there is one
 abbrev pub orders_at : WorldState → ℕ → Option Node → (ℕ → StationSide → Result Step StepError) → Result Step StepError
@@ -221,18 +236,21 @@ abbrev pub orders_to : WorldState → Name → (ℕ → StationSide → Result S
 orders_to s name order = orders_found s (position (is_station_named name) s.nodes) order
 
 abbrev pub begins : WorldState → Name → Name → ℕ → Result Step StepError
-begins s station drone kind = orders_to s station (λ k node. upload_begins s k node drone kind (upload_refusal node.core kind s.draft))
+begins s station drone kind = orders_to s station
+    (λ k node. upload_begins s k node drone kind (upload_refusal node.core kind s.draft))
 
 abbrev pub cancels : WorldState → Name → Result Step StepError
 cancels s station = orders_to s station (λ k node. orders s k node None (station_cancels s.clock node))
 
 abbrev pub clears : WorldState → Name → Name → ℕ → Result Step StepError
 clears s station drone kind =
-    orders_to s station (λ k node. orders s k node (refusal node.core) (station_clears s.clock (stream_of drone) kind node))
+    orders_to s station (λ k node. orders s k node (refusal node.core)
+    (station_clears s.clock (stream_of drone) kind node))
 
 abbrev pub gets : WorldState → Name → Name → ℕ → Result Step StepError
 gets s station drone kind =
-    orders_to s station (λ k node. orders s k node (refusal node.core) (station_gets s.clock (stream_of drone) kind node))
+    orders_to s station (λ k node. orders s k node (refusal node.core)
+    (station_gets s.clock (stream_of drone) kind node))
 
 -- an order to a station's services, which they refuse, as this event reports, or which is followed
 abbrev pub asks : WorldState → ℕ → StationSide → Option Event → Outcome StationSide → Result Step StepError
@@ -251,7 +269,8 @@ params_busy station (Some operation) = Some (Params_refused station)
 
 abbrev pub commands : WorldState → Name → Name → ℕ → ℕ → Result Step StepError
 commands s station drone number word =
-    orders_to s station (λ k node. asks s k node (command_busy (node_of node.link.me) (open_command node.services.commander))
+    orders_to s station (λ k node. asks s k node
+    (command_busy (node_of node.link.me) (open_command node.services.commander))
     (station_commands s.clock (stream_of drone) number word node))
 
 abbrev pub lists_params : WorldState → Name → Name → Result Step StepError
@@ -269,7 +288,8 @@ joins s node = rests (record s { nodes = s.nodes ++ node ∷ [] })
 abbrev pub after_line : WorldState → Line → Result Step StepError
 after_line s Blank = rests s
 after_line s (DroneLine sys x y) =
-    if nat_lt (drones_in s.nodes) most_drones then joins s (Drone (new_drone s.key sys (record { x = x; y = y }))) else Err (At_limit Drones)
+    if nat_lt (drones_in s.nodes) most_drones then joins s (Drone (new_drone s.key sys (record { x = x; y = y })))
+    else Err (At_limit Drones)
 after_line s (StationLine sys comp) =
     if nat_lt (stations_in s.nodes) most_stations
     then joins s (Station (new_station s.key (stream_of (record { sys = sys; comp = comp })) 0))
@@ -291,7 +311,8 @@ after_line s (Tick node) = calls s node (node_ticks s.clock)
 after_line s (Clock n) = rests (record s { clock = s.clock + n })
 after_line s (Sim drone n) = flies n drone s
 after_line s (WhereIs drone) = locates s drone
-after_line s (Restart drone) = if nat_lt s.restarts most_restarts then starts_again (restart_line s) drone else Err (At_limit Restarts)
+after_line s (Restart drone) = if nat_lt s.restarts most_restarts then starts_again (restart_line s) drone
+    else Err (At_limit Restarts)
 
 -- the closing plans: of each drone in the order named, and each kind
 abbrev pub closing_of : Node → List ℕ

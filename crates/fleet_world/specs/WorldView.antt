@@ -80,4 +80,8 @@ pub record IsState (state : WorldState) (frames : Bool) (world : WorldView) : Ty
 
 -- what the lines that follow are read against
 abbrev pub context_in : WorldView → LineContext
-context_in world = record { nodes = names_in world.fleet.nodes; drafted = length world.draft; clock = world.fleet.clock }
+context_in world = record {
+  nodes = names_in world.fleet.nodes;
+  drafted = length world.draft;
+  clock = world.fleet.clock;
+}

@@ -27,7 +27,8 @@ fn put_plans(report: &mut Report, name: Name, drone: &Drone) -> Result<(), NoMem
 
 // What the end reports of a node.
 fn close_node(node: &Node, report: &mut Report) -> Result<(), NoMemory>
-    ensures { OnOk result ((one : StateNode) → IsNode one node.now → report.new ≡ with_text report.old (closing_of one)) }
+    ensures { OnOk result ((one : StateNode) → IsNode one node.now
+        → report.new ≡ with_text report.old (closing_of one)) }
 {
     match node {
         Node::Drone(drone) => put_plans(report, node.named().name, drone.plans()),

@@ -45,7 +45,8 @@ pub(crate) fn frames_in(news: &[News]) -> usize
 
 // The frame of a piece of news is kept, if it is one.
 fn keep_frame(sent: &mut SentFrames, piece: &News) -> Result<(), NoMemory>
-    ensures kept { OnOk result ((event : NodeEvent) → said_by piece.now ≡ shown event → sent.new ≡ sent.old ++ map kept_as (packets_in (event ∷ []))) }
+    ensures kept { OnOk result ((event : NodeEvent) → said_by piece.now ≡ shown event
+        → sent.new ≡ sent.old ++ map kept_as (packets_in (event ∷ []))) }
     ensures count { OnOk result (is_frame piece.now ≡ true → length sent.new ≡ length sent.old + 1) }
 {
     match piece {
@@ -77,7 +78,8 @@ pub(crate) fn report_all(
     news: &[News],
     report: &mut Report,
 ) -> Result<(), NoMemory>
-    ensures { OnOk result ((events : List NodeEvent) → events_of news.now ≡ map shown events → HaveValues values.now events
+    ensures { OnOk result ((events : List NodeEvent) → events_of news.now ≡ map shown events
+        → HaveValues values.now events
         → Reported name events sent.old sent.new report.old report.new) }
 {
     for piece in news {

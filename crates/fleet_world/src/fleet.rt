@@ -1,11 +1,13 @@
 // The nodes of a world, their key and their clock.
-ghost use Rattle.std.specs.Prelude.{◌≡◌, if◌then◌else◌, ◌+◌, ◌<◌, ◌^◌, ◌++◌, ◌∷◌, Some, [], List, length, position, option_map, slice_get, IfOk, IfErr, IfSome, OnOk};
+ghost use Rattle.std.specs.Prelude.{◌≡◌, if◌then◌else◌, ◌+◌, ◌<◌, ◌^◌, ◌++◌, ◌∷◌, Some, [], List, length, position};
+ghost use Rattle.std.specs.Prelude.{option_map, slice_get, IfOk, IfErr, IfSome, OnOk};
 ghost use Rattle.scenario_lines.specs.LineContext.{is_called, is_in_role};
 ghost use Rattle.mav_nodes.specs.Nodes.{StationSide, new_drone, new_station, station_obeys};
 ghost use Rattle.node_reports.specs.Nodes.{Node as StateNode, Drone as StateDrone, Station as StateStation, node_name};
 ghost use Rattle.node_reports.specs.Calls.{as_station};
 ghost use Rattle.node_reports.specs.ParamLists.{params_of};
-ghost use Rattle.fleet_world.specs.WorldState.{is_named, is_drone_named, is_station_named, drones_in, stations_in, stream_of};
+ghost use Rattle.fleet_world.specs.WorldState.{is_named, is_drone_named, is_station_named, drones_in, stations_in};
+ghost use Rattle.fleet_world.specs.WorldState.{stream_of};
 ghost use Rattle.fleet_world.specs.WorldView.{no_fleet, named_in, names_in, IsFleet};
 ghost use Rattle.fleet_world.specs.Steps.{location_at, location_in};
 ghost use Rattle.fleet_world.specs.NodeSteps.{node_called};
@@ -84,7 +86,8 @@ fn count_drones(nodes: &[Node]) -> usize
     count
 }
 
-// The index of the first node of this name. It is a loop, since a closure over a node would be three functions to prove.
+// The index of the first node of this name. It is a loop, since a closure over a node would be three functions to
+// prove.
 fn first_called(nodes: &[Node], name: Name) -> Option<usize>
     ensures found { result ≡ position (λ node. is_called name (named_in node)) nodes.now }
     ensures within { IfSome result (λ index. index < length nodes.now) }
@@ -180,7 +183,8 @@ impl Fleet {
     /// The name of the node at an index.
     pub(crate) fn name_at(&self, index: usize) -> Name
         requires { index < length self.now.nodes }
-        ensures { (nodes : List StateNode) → IsFleet nodes self.now → Some result ≡ option_map node_name (slice_get nodes index) }
+        ensures { (nodes : List StateNode) → IsFleet nodes self.now
+            → Some result ≡ option_map node_name (slice_get nodes index) }
     {
         self.nodes[index].named().name
     }
@@ -194,7 +198,8 @@ impl Fleet {
     ) -> Result<Vec<News>, NodeFault>
         requires { index < length self.old.nodes }
         ensures done { IfOk result (λ news. (nodes : List StateNode) → IsFleet nodes self.old
-            → FleetOutcome nodes index (slice_get nodes index) (node_called call.now datagram.now self.old.clock) self.new news.items) }
+            → FleetOutcome nodes index (slice_get nodes index)
+            (node_called call.now datagram.now self.old.clock) self.new news.items) }
         ensures fault { IfErr result (λ fault. (nodes : List StateNode) → IsFleet nodes self.old
             → CallFails fault (slice_get nodes index) (node_called call.now datagram.now self.old.clock)) }
         ensures kept { self.new ≡ record self.old { nodes = self.new.nodes } }
@@ -233,7 +238,8 @@ impl Fleet {
 
     /// The index of the drone of a name.
     pub(crate) fn index_of_drone(&self, name: Name) -> Option<usize>
-        ensures found { (nodes : List StateNode) → IsFleet nodes self.now → result ≡ position (is_drone_named name) nodes }
+        ensures found { (nodes : List StateNode) → IsFleet nodes self.now
+            → result ≡ position (is_drone_named name) nodes }
         ensures within { IfSome result (λ index. index < length self.now.nodes) }
     {
         first_in_role(&self.nodes, Role::Drone, name)
@@ -241,7 +247,8 @@ impl Fleet {
 
     /// The index of the station of a name.
     pub(crate) fn index_of_station(&self, name: Name) -> Option<usize>
-        ensures found { (nodes : List StateNode) → IsFleet nodes self.now → result ≡ position (is_station_named name) nodes }
+        ensures found { (nodes : List StateNode) → IsFleet nodes self.now
+            → result ≡ position (is_station_named name) nodes }
         ensures within { IfSome result (λ index. index < length self.now.nodes) }
     {
         first_in_role(&self.nodes, Role::Station, name)

@@ -31,9 +31,12 @@ impl World {
         requires { index < length self.old.fleet.nodes }
         ensures done { OnOk result ((state : WorldState) → (packet : Packet) → IsState state self.old.frames self.old
             → slice_get state.sent number ≡ Some packet
-            → WorldOutcome (given_to state index packet (slice_get state.nodes index)) self.old.frames self.new report.old report.new) }
-        ensures error { IfErr result (λ fault. (state : WorldState) → (packet : Packet) → IsState state self.old.frames self.old
-            → slice_get state.sent number ≡ Some packet → IsStepError (given_to state index packet (slice_get state.nodes index)) fault) }
+            → WorldOutcome (given_to state index packet (slice_get state.nodes index)) self.old.frames self.new
+            report.old report.new) }
+        ensures error { IfErr result (λ fault. (state : WorldState) → (packet : Packet)
+            → IsState state self.old.frames self.old
+            → slice_get state.sent number ≡ Some packet
+            → IsStepError (given_to state index packet (slice_get state.nodes index)) fault) }
         ensures count { length self.new.fleet.nodes ≡ length self.old.fleet.nodes }
     {
         if self.is_sender(index, number) {
@@ -47,7 +50,8 @@ impl World {
         ensures done { OnOk result ((state : WorldState) → (packet : Packet) → IsState state self.old.frames self.old
             → slice_get state.sent number ≡ Some packet
             → WorldOutcome (given_to_all state packet) self.old.frames self.new report.old report.new) }
-        ensures error { IfErr result (λ fault. (state : WorldState) → (packet : Packet) → IsState state self.old.frames self.old
+        ensures error { IfErr result (λ fault. (state : WorldState) → (packet : Packet)
+            → IsState state self.old.frames self.old
             → slice_get state.sent number ≡ Some packet → IsStepError (given_to_all state packet) fault) }
     {
         for index in 0..self.fleet.len() {

@@ -84,7 +84,8 @@ impl World {
     }
 
     fn add_station(&mut self, name: Name) -> Result<(), WorldFault>
-        ensures done { OnOk result (DoesQuietly (λ state. after_line state (line.Station name.sys name.comp)) self.old self.new) }
+        ensures done { OnOk result (DoesQuietly (λ state. after_line state (line.Station name.sys name.comp)) self.old
+            self.new) }
         ensures error { IfErr result (Fails (λ state. after_line state (line.Station name.sys name.comp)) self.old) }
     {
         if self.fleet.stations() >= MOST_STATIONS {
@@ -105,7 +106,8 @@ impl World {
     fn add_items(&mut self, count: u64, first: Item) -> Result<(), WorldFault>
         requires few { count ≤ 2000 }
         requires fits { leaves_range count first ≡ false }
-        ensures done { OnOk result (DoesQuietly (λ state. after_line state (line.Items count first)) self.old self.new) }
+        ensures done { OnOk result (DoesQuietly (λ state. after_line state (line.Items count first)) self.old
+            self.new) }
         ensures error { IfErr result (λ fault. fault ≡ WorldFault.NoMemory) }
     {
         put_items(&mut self.draft, count, first)?;

@@ -1,5 +1,6 @@
 // Calls of nodes, and what is reported of them.
-ghost use Rattle.std.specs.Prelude.{◌≡◌, ◌-◌, ◌+◌, ◌<◌, nat_le, List, [], Some, length, map, slice_get, OnOk, IfOk, IfErr};
+ghost use Rattle.std.specs.Prelude.{◌≡◌, ◌-◌, ◌+◌, ◌<◌, nat_le, List, [], Some, length, map, slice_get, OnOk, IfOk};
+ghost use Rattle.std.specs.Prelude.{IfErr};
 ghost use Rattle.mav_nodes.specs.Nodes.{DroneSide};
 ghost use Rattle.mav_nodes.specs.News.{NodeEvent, shown, events_of};
 ghost use Rattle.node_reports.specs.Nodes.{Node as StateNode, Drone as StateDrone};
@@ -50,10 +51,12 @@ impl World {
         report: &mut Report,
     ) -> Result<(), WorldFault>
         requires { index < length self.old.fleet.nodes }
-        ensures done { OnOk result ((state : WorldState) → (events : List NodeEvent) → IsState state self.old.frames self.old
+        ensures done { OnOk result ((state : WorldState) → (events : List NodeEvent)
+            → IsState state self.old.frames self.old
             → events_of news.now ≡ map shown events → HaveValues (params_of (slice_get state.nodes index)) events
             → WorldOutcome (reports_news state name events) self.old.frames self.new report.old report.new) }
-        ensures error { IfErr result (λ fault. (state : WorldState) → (events : List NodeEvent) → IsState state self.old.frames self.old
+        ensures error { IfErr result (λ fault. (state : WorldState) → (events : List NodeEvent)
+            → IsState state self.old.frames self.old
             → events_of news.now ≡ map shown events → IsStepError (reports_news state name events) fault) }
         ensures fleet { self.new.fleet ≡ self.old.fleet }
     {
@@ -88,7 +91,8 @@ impl World {
     ) -> Result<(), WorldFault>
         requires { index < length self.old.fleet.nodes }
         ensures done { OnOk result ((state : WorldState) → IsState state self.old.frames self.old
-            → WorldOutcome (calls_at state index (slice_get state.nodes index) (called self.old call.now)) self.old.frames self.new report.old report.new) }
+            → WorldOutcome (calls_at state index (slice_get state.nodes index) (called self.old call.now))
+            self.old.frames self.new report.old report.new) }
         ensures error { IfErr result (λ fault. (state : WorldState) → IsState state self.old.frames self.old
             → IsStepError (calls_at state index (slice_get state.nodes index) (called self.old call.now)) fault) }
         ensures count { length self.new.fleet.nodes ≡ length self.old.fleet.nodes }
@@ -109,8 +113,10 @@ impl World {
         ensures done { OnOk result ((state : WorldState) → (node : DroneSide) → IsState state self.old.frames self.old
             → slice_get state.nodes index ≡ Some (StateDrone node)
             → WorldOutcome (restarts_as state index drone node) self.old.frames self.new report.old report.new) }
-        ensures error { IfErr result (λ fault. (state : WorldState) → (node : DroneSide) → IsState state self.old.frames self.old
-            → slice_get state.nodes index ≡ Some (StateDrone node) → IsStepError (restarts_as state index drone node) fault) }
+        ensures error { IfErr result (λ fault. (state : WorldState) → (node : DroneSide)
+            → IsState state self.old.frames self.old
+            → slice_get state.nodes index ≡ Some (StateDrone node)
+            → IsStepError (restarts_as state index drone node) fault) }
     {
         report.add(Event::Restarted(drone))?;
         let call = Call::Restart(self.fleet.key());
@@ -125,7 +131,8 @@ impl World {
         report: &mut Report,
     ) -> Result<(), WorldFault>
         ensures done { OnOk result ((state : WorldState) → IsState state self.old.frames self.old
-            → WorldOutcome (calls state name (called self.old call.now)) self.old.frames self.new report.old report.new) }
+            → WorldOutcome (calls state name (called self.old call.now)) self.old.frames self.new report.old
+            report.new) }
         ensures error { IfErr result (λ fault. (state : WorldState) → IsState state self.old.frames self.old
             → IsStepError (calls state name (called self.old call.now)) fault) }
     {
@@ -143,7 +150,8 @@ impl World {
         report: &mut Report,
     ) -> Result<(), WorldFault>
         ensures done { OnOk result ((state : WorldState) → IsState state self.old.frames self.old
-            → WorldOutcome (delivers state number name (slice_get state.sent (number - 1))) self.old.frames self.new report.old report.new) }
+            → WorldOutcome (delivers state number name (slice_get state.sent (number - 1))) self.old.frames self.new
+            report.old report.new) }
         ensures error { IfErr result (λ fault. (state : WorldState) → IsState state self.old.frames self.old
             → IsStepError (delivers state number name (slice_get state.sent (number - 1))) fault) }
     {

@@ -10,7 +10,8 @@ ghost use Rattle.fleet_world.specs.WorldState.{WorldState};
 ghost use Rattle.fleet_world.specs.WorldView.{WorldView, IsState};
 ghost use Rattle.fleet_world.specs.Steps.{station_line, orders_to, begins, clears, gets, commands, lists_params};
 ghost use Rattle.fleet_world.specs.NodeSteps.{obeys};
-ghost use Rattle.fleet_world.specs.Promises.{HasOrdered, WorldOutcome, IsStepError, RefusalReported, IsGivenUp, Does, Fails};
+ghost use Rattle.fleet_world.specs.Promises.{HasOrdered, WorldOutcome, IsStepError, RefusalReported, IsGivenUp, Does};
+ghost use Rattle.fleet_world.specs.Promises.{Fails};
 
 use crate::fleet::stream;
 use crate::{World, WorldFault};
@@ -24,7 +25,8 @@ use std::mem;
 impl World {
     // The flows that follow give what is sent from here on.
     fn skip_sent(&mut self)
-        ensures { (state : WorldState) → IsState state self.old.frames self.old → IsState (station_line state) self.old.frames self.new }
+        ensures { (state : WorldState) → IsState state self.old.frames self.old
+            → IsState (station_line state) self.old.frames self.new }
     {
         self.given = self.sent.len();
     }
@@ -79,13 +81,18 @@ impl World {
         report: &mut Report,
     ) -> Result<(), WorldFault>
         requires { index < length self.old.fleet.nodes }
-        ensures done { OnOk result ((before : WorldView) → (order : Order) → HasOrdered before.fleet index order outcome self.old.fleet → self.old ≡ record before { fleet = self.old.fleet }
+        ensures done { OnOk result ((before : WorldView) → (order : Order)
+            → HasOrdered before.fleet index order outcome self.old.fleet
+            → self.old ≡ record before { fleet = self.old.fleet }
             → (state : WorldState) → (node : StationSide) → IsState state before.frames before
             → slice_get state.nodes index ≡ Some (StateStation node)
             → WorldOutcome (obeys state index station node order) before.frames self.new report.old report.new) }
-        ensures error { IfErr result (λ fault. (before : WorldView) → (order : Order) → HasOrdered before.fleet index order outcome self.old.fleet → self.old ≡ record before { fleet = self.old.fleet }
+        ensures error { IfErr result (λ fault. (before : WorldView) → (order : Order)
+            → HasOrdered before.fleet index order outcome self.old.fleet
+            → self.old ≡ record before { fleet = self.old.fleet }
             → (state : WorldState) → (node : StationSide) → IsState state before.frames before
-            → slice_get state.nodes index ≡ Some (StateStation node) → IsStepError (obeys state index station node order) fault) }
+            → slice_get state.nodes index ≡ Some (StateStation node)
+            → IsStepError (obeys state index station node order) fault) }
     {
         match outcome {
             Ok(news) => self.report_news(index, station, news.as_slice(), report),
@@ -100,9 +107,11 @@ impl World {
         order: Order,
         report: &mut Report,
     ) -> Result<(), WorldFault>
-        ensures done { OnOk result (Does (λ state. orders_to (station_line state) station (λ k node. obeys (station_line state) k (node_of node.link.me) node order))
+        ensures done { OnOk result (Does (λ state. orders_to (station_line state) station
+            (λ k node. obeys (station_line state) k (node_of node.link.me) node order))
             self.old self.new report.old report.new) }
-        ensures error { IfErr result (Fails (λ state. orders_to (station_line state) station (λ k node. obeys (station_line state) k (node_of node.link.me) node order)) self.old) }
+        ensures error { IfErr result (Fails (λ state. orders_to (station_line state) station
+            (λ k node. obeys (station_line state) k (node_of node.link.me) node order)) self.old) }
     {
         self.skip_sent();
         let Some(index) = self.fleet.index_of_station(station) else {
@@ -122,7 +131,8 @@ impl World {
     ) -> Result<(), WorldFault>
         ensures done { OnOk result (Does (λ state. clears (station_line state) station drone (clear_number kind))
             self.old self.new report.old report.new) }
-        ensures error { IfErr result (Fails (λ state. clears (station_line state) station drone (clear_number kind)) self.old) }
+        ensures error { IfErr result (Fails (λ state. clears (station_line state) station drone (clear_number kind))
+            self.old) }
     {
         let drone = stream(drone);
         self.order(station, Order::Clear { drone, kind }, report)
@@ -138,7 +148,8 @@ impl World {
     ) -> Result<(), WorldFault>
         ensures done { OnOk result (Does (λ state. gets (station_line state) station drone (number_of kind))
             self.old self.new report.old report.new) }
-        ensures error { IfErr result (Fails (λ state. gets (station_line state) station drone (number_of kind)) self.old) }
+        ensures error { IfErr result (Fails (λ state. gets (station_line state) station drone (number_of kind))
+            self.old) }
     {
         let drone = stream(drone);
         self.order(station, Order::Get { drone, kind }, report)
@@ -155,7 +166,8 @@ impl World {
     ) -> Result<(), WorldFault>
         ensures done { OnOk result (Does (λ state. commands (station_line state) station drone number word)
             self.old self.new report.old report.new) }
-        ensures error { IfErr result (Fails (λ state. commands (station_line state) station drone number word) self.old) }
+        ensures error { IfErr result (Fails (λ state. commands (station_line state) station drone number word)
+            self.old) }
     {
         let drone = stream(drone);
         let order = Order::Command {
@@ -191,7 +203,8 @@ impl World {
     ) -> Result<(), WorldFault>
         ensures done { OnOk result (Does (λ state. begins (station_line state) station drone (number_of kind))
             self.old self.new report.old report.new) }
-        ensures error { IfErr result (Fails (λ state. begins (station_line state) station drone (number_of kind)) self.old) }
+        ensures error { IfErr result (Fails (λ state. begins (station_line state) station drone (number_of kind))
+            self.old) }
     {
         self.skip_sent();
         let Some(index) = self.fleet.index_of_station(station) else {

@@ -10,8 +10,8 @@ use mav_sign::{Datagram, Key, SignedFrame};
 use std::alloc::Global;
 use std::marker::Model;
 
-// A frame's sender, the offsets of its bytes, from `start` up to `end`, and whether it is known to verify under the scenario's
-// key.
+// A frame's sender, the offsets of its bytes, from `start` up to `end`, and whether it is known to verify under the
+// scenario's key.
 #[derive(Clone, Copy)]
 struct Span {
     start: usize,
@@ -20,8 +20,8 @@ struct Span {
     signed: bool,
 }
 
-/// The bytes of the sent frames, one after another, with their senders. Contracts see a pair for each frame. Which of them were
-/// signed under the scenario's key is kept, so that no node has to take a digest of these.
+/// The bytes of the sent frames, one after another, with their senders. Contracts see a pair for each frame. Which of
+/// them were signed under the scenario's key is kept, so that no node has to take a digest of these.
 #[derive(Drop)]
 pub(crate) struct SentFrames {
     key: Key,

@@ -112,8 +112,10 @@ impl StoredDrone {
 
     // The node ends, and one starts from what the store has.
     fn start_again(&mut self, alloc: Global, key: Key) -> Result<(), StartFault>
-        ensures done { OnOk result ((node : DroneSide) → IsStoredDrone node self.old → IsStoredDrone (restarted_drone key node) self.new) }
-        ensures fault { IfErr result (λ fault. (node : DroneSide) → IsStoredDrone node self.old → fault ≡ StartFault.NoMemory) }
+        ensures done { OnOk result ((node : DroneSide) → IsStoredDrone node self.old
+            → IsStoredDrone (restarted_drone key node) self.new) }
+        ensures fault { IfErr result (λ fault. (node : DroneSide) → IsStoredDrone node self.old
+            → fault ≡ StartFault.NoMemory) }
     {
         let sys = self.node.plans().sys();
         let home = self.node.home();

@@ -51,12 +51,19 @@ impl Model for World {
 
     ghost Value = { WorldView };
 
-    ghost view = { λ w. record { fleet = w.fleet; sent = w.sent; given = w.given; draft = items_of w.draft; restarts = w.restarts; frames = w.frames } };
+    ghost view = { λ w. record {
+      fleet = w.fleet;
+      sent = w.sent;
+      given = w.given;
+      draft = items_of w.draft;
+      restarts = w.restarts;
+      frames = w.frames;
+    } };
 }
 
 impl World {
-    /// A world with no node and an empty draft, whose nodes all have this key. `frames` says whether reports print frames
-    /// whole.
+    /// A world with no node and an empty draft, whose nodes all have this key. `frames` says whether reports print
+    /// frames whole.
     pub fn new(alloc: Global, key: Key, frames: bool) -> Result<World, NoMemory>
         ensures { IfOk result (λ world. IsState (empty_state key) frames world) }
     {
@@ -73,7 +80,8 @@ impl World {
 
     /// What a line says, without its LF and without a CR before it, or the first reason against it.
     pub fn read(&self, text: &[u8]) -> Result<Line, LineFault>
-        ensures ok { IfOk result (λ line. (reason_against (context_in self.now) text.now ≡ None) × (line ≡ line_of text.now)) }
+        ensures ok { IfOk result (λ line. (reason_against (context_in self.now) text.now ≡ None)
+            × (line ≡ line_of text.now)) }
         ensures permitted { IfOk result (IsPermitted (context_in self.now)) }
         ensures bad { IfErr result (λ e. IfBad e (λ r. reason_against (context_in self.now) text.now ≡ Some r)) }
     {

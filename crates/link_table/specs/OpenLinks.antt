@@ -1,5 +1,6 @@
 -- Which nodes are behind the links that are open, of which each has a list of the nodes that were learned there.
-use Rattle.std.specs.Prelude.{ℕ, ◌≡◌, ◌==◌, ◌&&◌, ◌+◌, ◌*◌, ◌<◌, nat_lt, Bool, true, if◌then◌else◌, List, [], slice_index, get_or}
+use Rattle.std.specs.Prelude.{ℕ, ◌≡◌, ◌==◌, ◌&&◌, ◌+◌, ◌*◌, ◌<◌, nat_lt, Bool, true, if◌then◌else◌, List, []}
+use Rattle.std.specs.Prelude.{slice_index, get_or}
 use Rattle.std.specs.Int.{bit_at}
 use Rattle.std.specs.List.{list_any}
 use Rattle.mav_names.specs.declared.names.Name.{Name}
@@ -11,8 +12,8 @@ has_system names sys = list_any (λ (n : Name). n.sys == sys) names
 abbrev pub has_node : List Name → ℕ → ℕ → Bool
 has_node names sys comp = list_any (λ (n : Name). (n.sys == sys) && (n.comp == comp)) names
 
--- somebody whom a message for that target is for is among these nodes, as behind a port: target system 0 is a broadcast,
--- component 0 is any component of the system
+-- somebody whom a message for that target is for is among these nodes, as behind a port: target system 0 is a
+-- broadcast, component 0 is any component of the system
 abbrev pub is_among : List Name → Name → Bool
 is_among names target =
     if target.sys == 0 then true
@@ -33,8 +34,10 @@ pub record Words : Type 0 where
 
 -- the bits say which nodes were learned at the open links, and none is set for a link that isn't open
 pub record StandsFor (words : Words) (links : List (List Name)) : Type 0 where
-  pub nodes : (k sys comp : ℕ) → sys < 256 → comp < 256 → has_link (slice_index words.nodes (sys * 256 + comp)) k ≡ has_node (nodes_at links k) sys comp
-  pub systems : (k sys : ℕ) → sys < 256 → has_link (slice_index words.systems sys) k ≡ has_system (nodes_at links k) sys
+  pub nodes : (k sys comp : ℕ) → sys < 256 → comp < 256
+      → has_link (slice_index words.nodes (sys * 256 + comp)) k ≡ has_node (nodes_at links k) sys comp
+  pub systems : (k sys : ℕ) → sys < 256 → has_link (slice_index words.systems sys) k
+      ≡ has_system (nodes_at links k) sys
 
 -- the bits of a word without those of one link, each later link's moved to the index before it
 abbrev pub bit_without : ℕ → ℕ → ℕ → Bool

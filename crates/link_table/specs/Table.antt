@@ -11,5 +11,7 @@ pub record Masks : Type 0 where
 
 -- the bits say what was learned
 pub record Represents (masks : Masks) (learned : List Learned) : Type 0 where
-  pub nodes : (port sys comp : ℕ) → 1 ≤ port → port ≤ 8 → sys < 256 → comp < 256 → has_bit (slice_index masks.nodes (sys * 256 + comp)) port ≡ node_learned learned port sys comp
-  pub systems : (port sys : ℕ) → 1 ≤ port → port ≤ 8 → sys < 256 → has_bit (slice_index masks.systems sys) port ≡ system_learned learned port sys
+  pub nodes : (port sys comp : ℕ) → 1 ≤ port → port ≤ 8 → sys < 256 → comp < 256
+      → has_bit (slice_index masks.nodes (sys * 256 + comp)) port ≡ node_learned learned port sys comp
+  pub systems : (port sys : ℕ) → 1 ≤ port → port ≤ 8 → sys < 256
+      → has_bit (slice_index masks.systems sys) port ≡ system_learned learned port sys

@@ -3,8 +3,8 @@
 //! A [`LinkTable`] represents the list of the nodes learned, each at its port; [`LinkTable::ways`] follows from that
 //! list alone. [`Ways`] is a set of the ports 1 to 8.
 //!
-//! An [`OpenTable`] is such a table for links that open and close, of which at most 32 are open at once: what was learned
-//! of a link goes with it. Only [`LinkTable::new`] and [`OpenTable::new`] allocate.
+//! An [`OpenTable`] is such a table for links that open and close, of which at most 32 are open at once: what was
+//! learned of a link goes with it. Only [`LinkTable::new`] and [`OpenTable::new`] allocate.
 #![tactic(auto)]
 
 mod link_set;

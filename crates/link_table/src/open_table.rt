@@ -1,5 +1,6 @@
 // The table of the nodes behind links that open and close.
-ghost use Rattle.std.specs.Prelude.{◌≡◌, ◌+◌, ◌*◌, ◌^◌, ◌<◌, ◌++◌, ◌∷◌, [], ℕ, List, length, slice_index, slice_set, IfOk};
+ghost use Rattle.std.specs.Prelude.{◌≡◌, ◌+◌, ◌*◌, ◌^◌, ◌<◌, ◌++◌, ◌∷◌, [], ℕ, List, length, slice_index, slice_set};
+ghost use Rattle.std.specs.Prelude.{IfOk};
 ghost use Rattle.std.specs.Int.Bits.{bit_or};
 ghost use Rattle.std.specs.List.{remove};
 ghost use Rattle.mav_names.specs.declared.names.Name.{Name as Node};
@@ -14,8 +15,8 @@ use std::marker::Model;
 // The bits of all links.
 const ALL_LINKS: u32 = 0xFFFF_FFFF;
 
-/// Which nodes are behind which of the links that are open, at most 32: each has the bit of its index among them, from the
-/// lowest. Each node has a word, and each system one too, with the bits of its nodes together.
+/// Which nodes are behind which of the links that are open, at most 32: each has the bit of its index among them, from
+/// the lowest. Each node has a word, and each system one too, with the bits of its nodes together.
 pub struct OpenTable {
     nodes: Vec<u32>,
     systems: Vec<u32>,
@@ -45,7 +46,8 @@ impl Model for OpenTable {
 fn mark(words: &mut Vec<u32>, index: usize, link: u8)
     requires within { index < length words.old.items }
     requires few { link < 32 }
-    ensures { words.new.items ≡ slice_set words.old.items index (bit_or (slice_index words.old.items index) (2 ^ link)) }
+    ensures { words.new.items ≡ slice_set words.old.items index
+        (bit_or (slice_index words.old.items index) (2 ^ link)) }
 {
     words[index] |= 1 << link;
 }
@@ -99,7 +101,8 @@ impl OpenTable {
     /// The link with that index closes. What was learned there is forgotten, and each later link's index is one less.
     pub fn close(&mut self, link: u8)
         requires { link < 32 }
-        ensures { (links : List (List Node)) → link < length links → StandsFor self.old links → StandsFor self.new (remove links link) }
+        ensures { (links : List (List Node)) → link < length links → StandsFor self.old links
+            → StandsFor self.new (remove links link) }
     {
         close_in(&mut self.nodes, link);
         close_in(&mut self.systems, link);

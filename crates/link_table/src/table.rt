@@ -1,5 +1,6 @@
 // The table of learned nodes.
-ghost use Rattle.std.specs.Prelude.{◌≡◌, ◌==◌, ◌+◌, ◌-◌, ◌*◌, ◌^◌, ◌<◌, ◌≤◌, ◌++◌, ◌∷◌, [], ℕ, List, not, nat_le, length, slice_index, slice_set, IfOk};
+ghost use Rattle.std.specs.Prelude.{◌≡◌, ◌==◌, ◌+◌, ◌-◌, ◌*◌, ◌^◌, ◌<◌, ◌≤◌, ◌++◌, ◌∷◌, [], ℕ, List, not, nat_le};
+ghost use Rattle.std.specs.Prelude.{length, slice_index, slice_set, IfOk};
 ghost use Rattle.std.specs.Int.Bits.{bit_or};
 ghost use Rattle.link_table.specs.Bits.{has_bit as mask_has};
 ghost use Rattle.link_table.specs.Routing.{Learned, is_behind, ways_of};
@@ -46,14 +47,16 @@ impl Model for LinkTable {
 
     ghost view = { λ t. record { ports = t.ports; nodes = t.nodes.items; systems = t.systems.items } };
 
-    ghost invariant = { λ t. ((1 ≤ t.ports) × (t.ports ≤ 8)) × (length t.nodes.items ≡ 65536) × (length t.systems.items ≡ 256) };
+    ghost invariant = { λ t. ((1 ≤ t.ports) × (t.ports ≤ 8)) × (length t.nodes.items ≡ 65536)
+        × (length t.systems.items ≡ 256) };
 }
 
 fn mark(masks: &mut Vec<u8>, index: usize, port: u8)
     requires within { index < length masks.old.items }
     requires from { 1 ≤ port }
     requires to { port ≤ 8 }
-    ensures { masks.new.items ≡ slice_set masks.old.items index (bit_or (slice_index masks.old.items index) (2 ^ (port - 1))) }
+    ensures { masks.new.items ≡ slice_set masks.old.items index
+        (bit_or (slice_index masks.old.items index) (2 ^ (port - 1))) }
 {
     masks[index] |= bit_of(port);
 }

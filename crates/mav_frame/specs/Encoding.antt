@@ -26,7 +26,8 @@ abbrev pub header_of : Bool → Packet → List ℕ
 header_of true packet =
     length packet.payload ∷ packet.seq ∷ packet.from.sys ∷ packet.from.comp ∷ little_endian 1 packet.id
 header_of false packet =
-    length packet.payload ∷ incompat_flags packet.block ∷ packet.compat ∷ packet.seq ∷ packet.from.sys ∷ packet.from.comp ∷ little_endian 3 packet.id
+    length packet.payload ∷ incompat_flags packet.block ∷ packet.compat ∷ packet.seq ∷ packet.from.sys
+    ∷ packet.from.comp ∷ little_endian 3 packet.id
 
 abbrev pub header : Packet → List ℕ
 header packet = header_of packet.old packet

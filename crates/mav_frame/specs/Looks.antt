@@ -1,5 +1,6 @@
 -- What is at the start of some bytes, in the order of the tests.
-use Rattle.std.specs.Prelude.{ℕ, ◌+◌, ◌-◌, ◌==◌, ◌&&◌, ◌∷◌, [], ◌++◌, Bool, true, false, List, length, slice_index, slice_range, nat_lt, not, Option, Some, None, if◌then◌else◌}
+use Rattle.std.specs.Prelude.{ℕ, ◌+◌, ◌-◌, ◌==◌, ◌&&◌, ◌∷◌, [], ◌++◌, Bool, true, false, List, length, slice_index}
+use Rattle.std.specs.Prelude.{slice_range, nat_lt, not, Option, Some, None, if◌then◌else◌}
 use Rattle.x25_check.specs.Check.{check}
 use Rattle.x25_check.specs.Extras.{extra_of}
 use Rattle.mav_frame.specs.Numbers.{number_at}
@@ -76,7 +77,8 @@ checksum_at old extra b = check (slice_range b 1 (check_offset old b) ++ extra �
 abbrev pub look_known : Bool → ℕ → List ℕ → Look
 look_known old extra b =
     if nat_lt (length b) (frame_size_at old b) then More (frame_size_at old b - length b)
-    else if number_at 2 (check_offset old b) b == checksum_at old extra b then Frame (packet_at old b) (frame_size_at old b)
+    else if number_at 2 (check_offset old b) b == checksum_at old extra b
+    then Frame (packet_at old b) (frame_size_at old b)
     else NotHere BadCheck
 
 -- after a whole header

@@ -1,4 +1,5 @@
--- A frame as plain data (MAVLink guide, MAVLink 2 Packet Format and MAVLink 1 Packet Format; Message Signing, Signature).
+-- A frame as plain data (MAVLink guide, MAVLink 2 Packet Format and MAVLink 1 Packet Format; Message Signing,
+-- Signature).
 use Rattle.std.specs.Prelude.{ℕ, ◌^◌, ◌<◌, ◌≡◌, Bool, true, List, length, Option, None, IfSome, All}
 use Rattle.mav_names.specs.declared.names.Name.{Name}
 

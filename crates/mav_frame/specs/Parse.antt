@@ -1,5 +1,6 @@
 -- The parse of a whole stream into frames and skipped bytes. The Bool says that frames of MAVLink 1 are read too.
-use Rattle.std.specs.Prelude.{ℕ, ◌≡◌, ◌≢◌, ◌<◌, ◌≤◌, Bool, false, List, [], ◌∷◌, ◌++◌, length, slice_index, Option, Some, None, IsSome}
+use Rattle.std.specs.Prelude.{ℕ, ◌≡◌, ◌≢◌, ◌<◌, ◌≤◌, Bool, false, List, [], ◌∷◌, ◌++◌, length, slice_index, Option}
+use Rattle.std.specs.Prelude.{Some, None, IsSome}
 use Rattle.x25_check.specs.Extras.{extra_of}
 use Rattle.mav_frame.specs.Numbers.{number_at}
 use Rattle.mav_frame.specs.Packet.{Packet, FitsFrame}
@@ -12,10 +13,11 @@ use Rattle.mav_frame.specs.declared.events.Event.TheVariants.{Frame, Skipped}
 
 -- no prefix of the bytes encodes a frame
 abbrev pub NoFrame : List (ℕ × ℕ) → Bool → List ℕ → Type 0
-NoFrame extras old b = (packet : Packet) (front rest : List ℕ) → FitsFrame packet → Encodes extras old packet front → b ≡ front ++ rest → ⊥
+NoFrame extras old b = (packet : Packet) (front rest : List ℕ) → FitsFrame packet → Encodes extras old packet front
+    → b ≡ front ++ rest → ⊥
 
--- an incomplete frame of one version: its STX, no unknown flag and a known id as far as the bytes go, and fewer of them
--- than the header fixes
+-- an incomplete frame of one version: its STX, no unknown flag and a known id as far as the bytes go, and fewer of
+-- them than the header fixes
 pub record IsIncompleteAs (extras : List (ℕ × ℕ)) (is_old : Bool) (b : List ℕ) : Type 0 where
   pub stx : 0 < length b → slice_index b 0 ≡ stx_of is_old
   pub flag : is_old ≡ false → 3 ≤ length b → slice_index b 2 ≤ 1
@@ -43,8 +45,10 @@ pub record IsCorrupt (extras : List (ℕ × ℕ)) (is_old : Bool) (b : List ℕ)
 -- why no frame of one version begins here
 abbrev pub SkipReasonAs : List (ℕ × ℕ) → Bool → List ℕ → Why → Type 0
 SkipReasonAs extras is_old b NotStx = (0 < length b) × (slice_index b 0 ≢ stx_of is_old)
-SkipReasonAs extras is_old b UnknownFlag = (is_old ≡ false) × (slice_index b 0 ≡ 0xFD) × (3 ≤ length b) × (1 < slice_index b 2)
-SkipReasonAs extras is_old b UnknownId = StartsFrame is_old b × (header_size is_old ≤ length b) × (extra_of (id_at is_old b) extras ≡ None)
+SkipReasonAs extras is_old b UnknownFlag = (is_old ≡ false) × (slice_index b 0 ≡ 0xFD) × (3 ≤ length b)
+    × (1 < slice_index b 2)
+SkipReasonAs extras is_old b UnknownId = StartsFrame is_old b × (header_size is_old ≤ length b)
+    × (extra_of (id_at is_old b) extras ≡ None)
 SkipReasonAs extras is_old b BadCheck = IsCorrupt extras is_old b
 SkipReasonAs extras is_old b Short = IsIncompleteAs extras is_old b
 
@@ -54,7 +58,8 @@ SkipReason extras old b why = SkipReasonAs extras (is_old_at old b) b why
 
 -- the event at the start of the bytes, and what follows it
 abbrev pub EventAt : List (ℕ × ℕ) → Bool → Event → List ℕ → List ℕ → Type 0
-EventAt extras old (Frame packet) b rest = FitsFrame packet × IsSealed extras old packet × (b ≡ encoding packet ++ rest)
+EventAt extras old (Frame packet) b rest = FitsFrame packet × IsSealed extras old packet
+    × (b ≡ encoding packet ++ rest)
 EventAt extras old (Skipped byte why) b rest = (b ≡ byte ∷ rest) × NoFrame extras old b × SkipReason extras old b why
 
 -- the same, with the frame alone: what a skipped byte is, and why, isn't told
@@ -71,18 +76,21 @@ Final extras old (event ∷ events) b = (rest : List ℕ) × EventAt extras old 
 abbrev pub Incremental : List (ℕ × ℕ) → Bool → List Event → List ℕ → List ℕ → Type 0
 Incremental extras old [] left b = (left ≡ b) × IsIncomplete extras old b
 Incremental extras old (event ∷ events) left b =
-    (IsIncomplete extras old b → ⊥) × ((rest : List ℕ) × EventAt extras old event b rest × Incremental extras old events left rest)
+    (IsIncomplete extras old b → ⊥) × ((rest : List ℕ) × EventAt extras old event b rest
+    × Incremental extras old events left rest)
 
 -- the events are a prefix of the incremental parse of the bytes, and this is left
 abbrev pub BeginsIncremental : List (ℕ × ℕ) → Bool → List Event → List ℕ → List ℕ → Type 0
 BeginsIncremental extras old [] left b = b ≡ left
 BeginsIncremental extras old (event ∷ events) left b =
-    (IsIncomplete extras old b → ⊥) × ((rest : List ℕ) × EventAt extras old event b rest × BeginsIncremental extras old events left rest)
+    (IsIncomplete extras old b → ⊥) × ((rest : List ℕ) × EventAt extras old event b rest
+    × BeginsIncremental extras old events left rest)
 
 -- the events are a prefix of the final parse of the bytes, and this is left
 abbrev pub BeginsFinal : List (ℕ × ℕ) → Bool → List Event → List ℕ → List ℕ → Type 0
 BeginsFinal extras old [] left b = b ≡ left
-BeginsFinal extras old (event ∷ events) left b = (rest : List ℕ) × EventAt extras old event b rest × BeginsFinal extras old events left rest
+BeginsFinal extras old (event ∷ events) left b = (rest : List ℕ) × EventAt extras old event b rest
+    × BeginsFinal extras old events left rest
 
 -- the bytes of an event
 abbrev pub event_bytes : Event → List ℕ

@@ -3,7 +3,8 @@ ghost use Rattle.std.specs.Prelude.{◌≡◌, ◌+◌, ◌≤◌, ◌++◌, ℕ
 ghost use Rattle.mav_frame.specs.Padding.{IsPadded};
 ghost use Rattle.mav_frame.specs.Packet.{Packet, FitsFrame};
 ghost use Rattle.mav_frame.specs.Encoding.{Encodes, IsSealed, encoding};
-ghost use Rattle.mav_frame.specs.Looks.{IfFrame, IfWhole, block_at, check_offset, frame_size_at, header_size, id_at, is_old_at, look_by, look_header, look_known, look_of, packet_at};
+ghost use Rattle.mav_frame.specs.Looks.{IfFrame, IfWhole, block_at, check_offset, frame_size_at, header_size, id_at};
+ghost use Rattle.mav_frame.specs.Looks.{is_old_at, look_by, look_header, look_known, look_of, packet_at};
 
 use crate::encoding::{OLD_STX, STX, checksum};
 use crate::looks::{FrameCheck, Look, Why};
@@ -28,9 +29,11 @@ pub fn look(extras: &Extras, old: bool, bytes: &[u8]) -> Look
     // The result, in the order of the tests.
     ensures exact { result ≡ look_of extras.now old bytes.now }
     // What is found is encoded by the bytes at the start.
-    ensures found { IfFrame result (λ packet size. (size ≤ length bytes.now) × Encodes extras.now old packet (take size bytes.now) × FitsFrame packet) }
+    ensures found { IfFrame result (λ packet size. (size ≤ length bytes.now)
+        × Encodes extras.now old packet (take size bytes.now) × FitsFrame packet) }
     // What is encoded there is found, whatever follows.
-    ensures only { (packet : Packet) (rest : List ℕ) → FitsFrame packet → IsSealed extras.now old packet → bytes.now ≡ encoding packet ++ rest → result ≡ Look.Frame packet (length (encoding packet)) }
+    ensures only { (packet : Packet) (rest : List ℕ) → FitsFrame packet → IsSealed extras.now old packet
+        → bytes.now ≡ encoding packet ++ rest → result ≡ Look.Frame packet (length (encoding packet)) }
 {
     answer(extras, old, bytes)
 }
@@ -51,7 +54,9 @@ pub fn check_frame<T: CrcExtras>(extras: &T, old: bool, bytes: &[u8]) -> FrameCh
     ensures exact { look_by result (is_old_at old bytes.now) bytes.now ≡ look_of (T.pairs extras.now) old bytes.now }
     ensures whole { IfWhole result (λ size. frame_size_at (is_old_at old bytes.now) bytes.now ≤ length bytes.now) }
     // The bytes at the start encode a frame.
-    ensures found { IfWhole result (λ size. (size ≤ length bytes.now) × Encodes (T.pairs extras.now) old (packet_at (is_old_at old bytes.now) bytes.now) (take size bytes.now) × FitsFrame (packet_at (is_old_at old bytes.now) bytes.now)) }
+    ensures found { IfWhole result (λ size. (size ≤ length bytes.now)
+        × Encodes (T.pairs extras.now) old (packet_at (is_old_at old bytes.now) bytes.now) (take size bytes.now)
+        × FitsFrame (packet_at (is_old_at old bytes.now) bytes.now)) }
 {
     checked(extras, old, bytes)
 }

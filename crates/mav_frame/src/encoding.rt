@@ -29,7 +29,16 @@ impl Frame {
     ) -> Frame
         requires id { id < 2 ^ 24 }
         requires payload { length payload.now < 256 }
-        ensures { result ≡ record { old = false; compat = compat; seq = seq; from = from; id = id; payload = payload.now; check = 0; block = block } }
+        ensures { result ≡ record {
+          old = false;
+          compat = compat;
+          seq = seq;
+          from = from;
+          id = id;
+          payload = payload.now;
+          check = 0;
+          block = block;
+        } }
     {
         Frame {
             old: false,
@@ -111,8 +120,8 @@ impl Frame {
     }
 }
 
-/// The header of MAVLink 2 after STX: the payload's length, the incompatibility and the compatibility flags, the sequence
-/// number, the sender and the message id.
+/// The header of MAVLink 2 after STX: the payload's length, the incompatibility and the compatibility flags, the
+/// sequence number, the sender and the message id.
 pub(crate) fn new_header(len: u8, flags: u8, compat: u8, seq: u8, from: Name, id: u32) -> [u8; 9]
     ensures { result ≡ len ∷ flags ∷ compat ∷ seq ∷ from.sys ∷ from.comp ∷ little_endian 3 id }
 {

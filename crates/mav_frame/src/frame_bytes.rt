@@ -43,8 +43,8 @@ impl FrameBytes {
         FrameBytes { bytes, size }
     }
 
-    /// The frame of MAVLink 2 without payload and signature block whose numbers and checksum are 0, which `seal` writes
-    /// another over.
+    /// The frame of MAVLink 2 without payload and signature block whose numbers and checksum are 0, which `seal`
+    /// writes another over.
     #[inline]
     pub fn new() -> FrameBytes
         ensures { result ≡ unsealed 0 (record { sys = 0; comp = 0 }) 0 [] None }
@@ -54,8 +54,8 @@ impl FrameBytes {
         FrameBytes { bytes, size }
     }
 
-    /// Makes it a frame of MAVLink 2 with a signature block and without compatibility flags, whose checksum is that of a
-    /// message with that CRC_EXTRA.
+    /// Makes it a frame of MAVLink 2 with a signature block and without compatibility flags, whose checksum is that of
+    /// a message with that CRC_EXTRA.
     pub fn seal(&mut self, seq: u8, from: Name, id: u32, payload: &[u8], extra: u8, block: Block)
         requires id { id < 2 ^ 24 }
         requires payload { length payload.now < 256 }
@@ -82,7 +82,8 @@ impl FrameBytes {
     /// Replaces the six bytes of its signature.
     pub fn set_signature(&mut self, signature: &[u8; 6])
         requires { IsSome self.old.block }
-        ensures { IfSome self.old.block (λ block. self.new ≡ record self.old { block = Some record block { sig = signature.now } }) }
+        ensures { IfSome self.old.block (λ block. self.new
+            ≡ record self.old { block = Some record block { sig = signature.now } }) }
     {
         put(&mut self.bytes, self.size - SIGNATURE_BYTES, signature);
     }

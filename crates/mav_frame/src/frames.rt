@@ -44,11 +44,42 @@ pub struct Frame {
 impl Model for Frame {
     ghost Value = { Packet };
 
-    ghost view = { λ f. record { old = f.old; compat = f.compat; seq = f.seq; from = f.from; id = f.id; payload = take f.len f.payload; check = f.check; block = f.block } };
+    ghost view = { λ f. record {
+      old = f.old;
+      compat = f.compat;
+      seq = f.seq;
+      from = f.from;
+      id = f.id;
+      payload = take f.len f.payload;
+      check = f.check;
+      block = f.block;
+    } };
 
-    ghost invariant = { λ f. (f.id < 2 ^ 24) × IsPadded f.len f.payload × (f.old ≡ true → (f.id < 256) × (f.compat ≡ 0) × (f.block ≡ None)) };
+    ghost invariant = { λ f. (f.id < 2 ^ 24) × IsPadded f.len f.payload
+        × (f.old ≡ true → (f.id < 256) × (f.compat ≡ 0) × (f.block ≡ None)) };
 
-    ghost inverse = { λ p. record { old = p.old; compat = p.compat; seq = p.seq; from = p.from; id = p.id; len = length p.payload; payload = padded p.payload; check = p.check; block = p.block } };
+    ghost inverse = { λ p. record {
+      old = p.old;
+      compat = p.compat;
+      seq = p.seq;
+      from = p.from;
+      id = p.id;
+      len = length p.payload;
+      payload = padded p.payload;
+      check = p.check;
+      block = p.block;
+    } };
 
-    ghost inverse_ok = { λ a h. unpadded a.len a.payload h.1 (λ n bytes. record { old = a.old; compat = a.compat; seq = a.seq; from = a.from; id = a.id; len = n; payload = bytes; check = a.check; block = a.block }) };
+    ghost inverse_ok = { λ a h. unpadded a.len a.payload h.1
+        (λ n bytes. record {
+          old = a.old;
+          compat = a.compat;
+          seq = a.seq;
+          from = a.from;
+          id = a.id;
+          len = n;
+          payload = bytes;
+          check = a.check;
+          block = a.block;
+        }) };
 }

@@ -1,5 +1,8 @@
 //! Laws of parses: functions without a body, whose contract is the law.
-ghost use Rattle.mav_frame.specs.ParseLaws.{FinalIsFunction, OneFinal, OneIncremental, MoreBytesKeep, IncrementalGoesOn, IncrementalEnds, FinalGoesOn, FinalEnds, IncrementalBeginsFinal, IncompleteIsMore, EventsCoverBytes, EncodingsArePrefixFree, OldFramesUnread, SameWithoutOldStx};
+ghost use Rattle.mav_frame.specs.ParseLaws.{FinalIsFunction, OneFinal, OneIncremental, MoreBytesKeep};
+ghost use Rattle.mav_frame.specs.ParseLaws.{IncrementalGoesOn, IncrementalEnds, FinalGoesOn, FinalEnds};
+ghost use Rattle.mav_frame.specs.ParseLaws.{IncrementalBeginsFinal, IncompleteIsMore, EventsCoverBytes};
+ghost use Rattle.mav_frame.specs.ParseLaws.{EncodingsArePrefixFree, OldFramesUnread, SameWithoutOldStx};
 
 /// `final_parse` is the final parse of the bytes.
 pub fn final_is_function()

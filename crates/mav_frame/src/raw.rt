@@ -16,8 +16,8 @@ use std::marker::Model;
 // The bytes of a signature, the last of a signed frame.
 pub(crate) const SIGNATURE_BYTES: usize = 6;
 
-/// A frame as the bytes that encode it, which contracts see as its packet. Its parts are read where they stand (MAVLink
-/// guide, MAVLink 2 Packet Format and MAVLink 1 Packet Format).
+/// A frame as the bytes that encode it, which contracts see as its packet. Its parts are read where they stand
+/// (MAVLink guide, MAVLink 2 Packet Format and MAVLink 1 Packet Format).
 #[derive(Drop)]
 pub struct RawFrame<'a> {
     bytes: &'a [u8],
@@ -127,7 +127,8 @@ impl<'a> RawFrame<'a> {
     /// What is signed after the key: the bytes from STX through the timestamp.
     pub fn signed_bytes(&self) -> &'a [u8]
         requires { IsSome self.now.block }
-        ensures { IfSome self.now.block (λ block. result.now ≡ through_checksum self.now ++ block.link ∷ little_endian 6 block.stamp) }
+        ensures { IfSome self.now.block (λ block. result.now ≡ through_checksum self.now ++ block.link
+            ∷ little_endian 6 block.stamp) }
     {
         &self.bytes[..self.bytes.len() - SIGNATURE_BYTES]
     }

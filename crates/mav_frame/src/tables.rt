@@ -4,7 +4,8 @@ ghost use Rattle.x25_check.specs.Extras.{extra_of};
 
 use x25_check::Extras;
 
-/// A table of the CRC_EXTRA byte of each known message id (MAVLink guide, Packet Serialization: CRC_EXTRA calculation).
+/// A table of the CRC_EXTRA byte of each known message id (MAVLink guide, Packet Serialization: CRC_EXTRA
+/// calculation).
 pub trait CrcExtras {
     /// The pairs of an id and its byte.
     ghost pairs: { Self → List (ℕ × ℕ) };

@@ -1,6 +1,7 @@
--- The station's side of file transfer: one list, fetch, store or removal at a time, and one request that waits for its reply
--- (MAVLink guide, File Transfer Protocol: reading, uploading, listing and removing files, timeouts).
-use Rattle.std.specs.Prelude.{ℕ, ◌+◌, ◌==◌, ◌||◌, ◌&&◌, nat_le, nat_lt, Bool, if◌then◌else◌, List, [], ◌++◌, length, take, drop, count_by, slice_index, Option, Some, None}
+-- The station's side of file transfer: one list, fetch, store or removal at a time, and one request that waits for its
+-- reply (MAVLink guide, File Transfer Protocol: reading, uploading, listing and removing files, timeouts).
+use Rattle.std.specs.Prelude.{ℕ, ◌+◌, ◌==◌, ◌||◌, ◌&&◌, nat_le, nat_lt, Bool, if◌then◌else◌, List, [], ◌++◌, length}
+use Rattle.std.specs.Prelude.{take, drop, count_by, slice_index, Option, Some, None}
 use Rattle.mav_ftp.specs.declared.payload.FtpFields.{FtpFields}
 use Rattle.mav_ftp.specs.declared.client.ends.FtpStep.{FtpStep}
 use Rattle.mav_ftp.specs.declared.client.ends.FtpStep.TheVariants.{Quiet, Send, Done, Refused}
@@ -9,7 +10,9 @@ use Rattle.mav_ftp.specs.declared.client.ends.FtpTick.TheVariants.{Quiet as Quie
 use Rattle.mav_ftp.specs.declared.client.faults.FtpFault.{FtpFault}
 use Rattle.mav_ftp.specs.declared.client.faults.FtpFault.TheVariants.{Busy, BadName, TooLarge}
 use Rattle.mav_ftp.specs.Replies.{next_seq}
-use Rattle.mav_ftp.specs.Payload.{most_data, most_file, terminate_session, list_directory, open_file_ro, read_file, create_file, write_file, remove_file, ack, nak, end_of_file, fields_of, sized_data, ftp_payload, is_file_name}
+use Rattle.mav_ftp.specs.Payload.{most_data, most_file, terminate_session, list_directory, open_file_ro, read_file}
+use Rattle.mav_ftp.specs.Payload.{create_file, write_file, remove_file, ack, nak, end_of_file, fields_of, sized_data}
+use Rattle.mav_ftp.specs.Payload.{ftp_payload, is_file_name}
 
 -- the request that waits
 pub data FilePhase : Type 0 where
@@ -133,7 +136,8 @@ name_fault name = if is_file_name name then None else Some BadName
 
 abbrev pub store_fault : List ℕ → List ℕ → Option FtpFault
 store_fault name bytes =
-    if is_file_name name then (if nat_le (length bytes) most_file then None else Some (TooLarge (length bytes))) else Some BadName
+    if is_file_name name then (if nat_le (length bytes) most_file then None else Some (TooLarge (length bytes)))
+    else Some BadName
 
 abbrev pub free_fault : FileOrder → Option FtpFault
 free_fault list_order = None
@@ -159,12 +163,14 @@ least_size phase acknowledges = if acknowledges then 0 else 1
 
 abbrev pub is_sized : Transfer → FtpFields → Bool
 is_sized t f =
-    nat_le (least_size t.phase (f.opcode == ack)) f.size && (nat_le f.size most_data && nat_le (length t.bytes + f.size) most_taken)
+    nat_le (least_size t.phase (f.opcode == ack)) f.size
+    && (nat_le f.size most_data && nat_le (length t.bytes + f.size) most_taken)
 
 -- the reply to the request that waits, which has this seq
 abbrev pub is_reply : ℕ → Transfer → FtpFields → Bool
 is_reply seq t f =
-    (f.seq == next_seq seq) && ((f.req_opcode == opcode_of t.phase) && (((f.opcode == ack) || (f.opcode == nak)) && is_sized t f))
+    (f.seq == next_seq seq) && ((f.req_opcode == opcode_of t.phase)
+    && (((f.opcode == ack) || (f.opcode == nak)) && is_sized t f))
 
 -- what a reply makes of an operation
 pub data Course : Type 0 where
@@ -182,7 +188,8 @@ more_taken t given = record t { bytes = t.bytes ++ given; idle = 0 }
 -- what is left of a store is written; TerminateSession ends it if nothing is
 abbrev pub next_write : Transfer → Transfer
 next_write t =
-    if nat_lt t.written (length t.bytes) then record t { phase = Writing; idle = 0 } else record t { phase = Committing; idle = 0 }
+    if nat_lt t.written (length t.bytes) then record t { phase = Writing; idle = 0 }
+    else record t { phase = Committing; idle = 0 }
 
 abbrev pub acknowledged : Transfer → FilePhase → ℕ → List ℕ → Course
 acknowledged t Listing session given = Goes_on (more_taken t given)
@@ -194,15 +201,18 @@ acknowledged t Writing session given = Goes_on (next_write (record t { written =
 acknowledged t Committing session given = Is_done []
 acknowledged t Removing session given = Is_done []
 
--- error 6 ends a list, and the reading of a fetch, whose session is then terminated. However that is answered it is done
+-- error 6 ends a list, and the reading of a fetch, whose session is then terminated. However that is answered it is
+-- done
 abbrev pub denied : Transfer → FilePhase → ℕ → Course
 denied t Listing code = if code == end_of_file then Is_done t.bytes else Is_refused code
-denied t Reading code = if code == end_of_file then Goes_on (record t { phase = Closing; idle = 0 }) else Is_refused code
+denied t Reading code = if code == end_of_file then Goes_on (record t { phase = Closing; idle = 0 })
+    else Is_refused code
 denied t Closing code = Is_done t.bytes
 denied t phase code = Is_refused code
 
 abbrev pub replied : Transfer → FtpFields → List ℕ → Course
-replied t f given = if f.opcode == ack then acknowledged t t.phase f.session given else denied t t.phase (slice_index given 0)
+replied t f given = if f.opcode == ack then acknowledged t t.phase f.session given
+    else denied t t.phase (slice_index given 0)
 
 -- ---- a step
 
@@ -216,12 +226,16 @@ after_course seq (Goes_on t) = record {
   answer = Send (transfer_request (next_seq seq) t);
 }
 after_course seq (Is_done bytes) = record { state = record { last = Some seq; operation = None }; answer = Done bytes }
-after_course seq (Is_refused code) = record { state = record { last = Some seq; operation = None }; answer = Refused code }
+after_course seq (Is_refused code) = record {
+  state = record { last = Some seq; operation = None };
+  answer = Refused code;
+}
 
 abbrev pub heard : TransferState → Option Transfer → List ℕ → FileStep
 heard s None p = record { state = s; answer = Quiet }
 heard s (Some t) p =
-    if is_reply (request_seq s.last) t (fields_of p) then after_course (fields_of p).seq (replied t (fields_of p) (sized_data p))
+    if is_reply (request_seq s.last) t (fields_of p)
+    then after_course (fields_of p).seq (replied t (fields_of p) (sized_data p))
     else record { state = s; answer = Quiet }
 
 -- a payload comes

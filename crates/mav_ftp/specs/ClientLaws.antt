@@ -1,10 +1,12 @@
 -- A client and the server that answers its requests in order.
-use Rattle.std.specs.Prelude.{◌≡◌, ℕ, ◌+◌, ◌<◌, ◌≤◌, if◌then◌else◌, true, false, List, [], ◌∷◌, ◌++◌, length, is_some, Some, None}
+use Rattle.std.specs.Prelude.{◌≡◌, ℕ, ◌+◌, ◌<◌, ◌≤◌, if◌then◌else◌, true, false, List, [], ◌∷◌, ◌++◌, length, is_some}
+use Rattle.std.specs.Prelude.{Some, None}
 use Rattle.mav_names.specs.declared.names.Stream.{Stream}
 use Rattle.mav_ftp.specs.declared.client.ends.FtpStep.{FtpStep}
 use Rattle.mav_ftp.specs.declared.client.ends.FtpStep.TheVariants.{Quiet, Done}
 use Rattle.mav_ftp.specs.Payload.{most_file}
-use Rattle.mav_ftp.specs.Client.{TransferState, FileOrder, fetch_order, store_order, order_fault, ordered, request_of, transfer_step, step_answer, transfer_tick, idle_limit}
+use Rattle.mav_ftp.specs.Client.{TransferState, FileOrder, fetch_order, store_order, order_fault, ordered, request_of}
+use Rattle.mav_ftp.specs.Client.{transfer_step, step_answer, transfer_tick, idle_limit}
 use Rattle.mav_ftp.specs.Files.{most_files}
 use Rattle.mav_ftp.specs.Sessions.{free_session}
 use Rattle.mav_ftp.specs.Exchanges.{kept_reply, is_full_for}
@@ -32,7 +34,10 @@ pub data Delivery : Type 0 where
 
 abbrev pub delivered : Stream → Delivery → FtpLink → FtpLink
 delivered from Both_arrive l = answered from l
-delivered from Reply_lost l = record l { client = transfer_tick l.client; server = files_after l.server from (request_of l.client) }
+delivered from Reply_lost l = record l {
+  client = transfer_tick l.client;
+  server = files_after l.server from (request_of l.client);
+}
 delivered from Request_lost l = record l { client = transfer_tick l.client }
 
 -- one delivery after another, until no operation is open

@@ -2,15 +2,27 @@
 use Rattle.std.specs.Prelude.{◌≡◌, ℕ, ◌<◌, ◌≤◌, List, [], length}
 use Rattle.mav_ftp.specs.declared.client.FtpClient.TheInside.{Inside as ClientParts}
 use Rattle.mav_ftp.specs.declared.client.stages.Stage.{Stage}
-use Rattle.mav_ftp.specs.declared.client.stages.Stage.TheVariants.{Listing as InListing, Opening as InOpening, Reading as InReading, Closing as InClosing, Creating as InCreating, Writing as InWriting, Committing as InCommitting, Removing as InRemoving}
+use Rattle.mav_ftp.specs.declared.client.stages.Stage.TheVariants.{Listing as InListing, Opening as InOpening}
+use Rattle.mav_ftp.specs.declared.client.stages.Stage.TheVariants.{Reading as InReading, Closing as InClosing}
+use Rattle.mav_ftp.specs.declared.client.stages.Stage.TheVariants.{Creating as InCreating, Writing as InWriting}
+use Rattle.mav_ftp.specs.declared.client.stages.Stage.TheVariants.{Committing as InCommitting, Removing as InRemoving}
 use Rattle.mav_ftp.specs.declared.client.transfers.OpenTransfer.TheInside.{Inside as TransferParts}
 use Rattle.mav_ftp.specs.declared.client.transfers.Course.{Course as NextCourse}
 use Rattle.mav_ftp.specs.declared.client.transfers.Course.TheVariants.{Continues, Gives, Done, Refused}
 use Rattle.mav_ftp.specs.Payload.{most_file}
-use Rattle.mav_ftp.specs.Client.{FilePhase, Listing, Opening, Reading, Closing, Creating, Writing, Committing, Removing, Transfer, TransferState, Course, Goes_on, Is_done, Is_refused, idle_limit, most_taken, entries_in}
+use Rattle.mav_ftp.specs.Client.{FilePhase, Listing, Opening, Reading, Closing, Creating, Writing, Committing}
+use Rattle.mav_ftp.specs.Client.{Removing, Transfer, TransferState, Course, Goes_on, Is_done, Is_refused, idle_limit}
+use Rattle.mav_ftp.specs.Client.{most_taken, entries_in}
 
 abbrev pub named : FilePhase → List ℕ → List ℕ → ℕ → Transfer
-named phase name bytes idle = record { phase = phase; name = name; bytes = bytes; session = 0; written = 0; idle = idle }
+named phase name bytes idle = record {
+  phase = phase;
+  name = name;
+  bytes = bytes;
+  session = 0;
+  written = 0;
+  idle = idle;
+}
 
 abbrev pub in_session : FilePhase → ℕ → ℕ → List ℕ → ℕ → Transfer
 in_session phase session written bytes idle =

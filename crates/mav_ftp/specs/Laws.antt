@@ -1,7 +1,8 @@
 -- What is shown of a server: a file is written piece by piece, and is seen when its session ends.
 use Rattle.std.specs.Prelude.{◌≡◌, ℕ, ◌+◌, ◌<◌, ◌≤◌, true, false, List, [], ◌∷◌, ◌++◌, length, All, Some, None}
 use Rattle.mav_names.specs.declared.names.Stream.{Stream}
-use Rattle.mav_ftp.specs.Payload.{most_data, most_file, create_file, write_file, terminate_session, is_file_name, ftp_payload}
+use Rattle.mav_ftp.specs.Payload.{most_data, most_file, create_file, write_file, terminate_session, is_file_name}
+use Rattle.mav_ftp.specs.Payload.{ftp_payload}
 use Rattle.mav_ftp.specs.Files.{most_files}
 use Rattle.mav_ftp.specs.Sessions.{free_session}
 use Rattle.mav_ftp.specs.Exchanges.{kept_reply, is_full_for}
@@ -14,7 +15,14 @@ pub record Piece : Type 0 where
 
 abbrev pub request : ℕ → ℕ → ℕ → ℕ → List ℕ → List ℕ
 request seq session opcode offset bytes =
-    ftp_payload (record { seq = seq; session = session; opcode = opcode; size = length bytes; req_opcode = 0; offset = offset }) bytes
+    ftp_payload (record {
+      seq = seq;
+      session = session;
+      opcode = opcode;
+      size = length bytes;
+      req_opcode = 0;
+      offset = offset;
+    }) bytes
 
 -- CreateFile, WriteFile and TerminateSession
 abbrev pub create_request : ℕ → List ℕ → List ℕ
@@ -29,7 +37,8 @@ end_request seq session = request seq session terminate_session 0 []
 -- the state after pieces were written one after another, from an offset on
 abbrev pub after_pieces : FilesState → Stream → ℕ → ℕ → List Piece → FilesState
 after_pieces st from session offset [] = st
-after_pieces st from session offset (p ∷ ps) = after_pieces (files_after st from (write_request session offset p)) from session (offset + length p.bytes) ps
+after_pieces st from session offset (p ∷ ps) =
+    after_pieces (files_after st from (write_request session offset p)) from session (offset + length p.bytes) ps
 
 abbrev pub all_bytes : List Piece → List ℕ
 all_bytes [] = []
@@ -52,4 +61,5 @@ pub record AreWritable (pieces : List Piece) : Type 0 where
 
 -- before the session ends
 abbrev pub written : FilesState → Stream → ℕ → ℕ → List ℕ → List Piece → FilesState
-written st from session seq name pieces = after_pieces (files_after st from (create_request seq name)) from session 0 pieces
+written st from session seq name pieces =
+    after_pieces (files_after st from (create_request seq name)) from session 0 pieces

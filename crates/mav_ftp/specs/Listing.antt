@@ -11,7 +11,8 @@ entry f = 70 ∷ (f.name ++ (9 ∷ (decimal (length f.bytes) ++ 0 ∷ [])))
 -- as many whole entries as fit
 abbrev pub entries_within : ℕ → List File → List ℕ
 entries_within room [] = []
-entries_within room (f ∷ fs) = if nat_le (length (entry f)) room then entry f ++ entries_within (room - length (entry f)) fs else []
+entries_within room (f ∷ fs) = if nat_le (length (entry f)) room
+    then entry f ++ entries_within (room - length (entry f)) fs else []
 
 -- the one directory: nothing, or `/`
 abbrev pub is_root : List ℕ → Bool

@@ -1,5 +1,6 @@
 -- The payload of FILE_TRANSFER_PROTOCOL (MAVLink guide, File Transfer Protocol: Payload Format).
-use Rattle.std.specs.Prelude.{ℕ, ◌-◌, ◌==◌, ◌&&◌, ◌||◌, nat_le, Bool, List, [], ◌∷◌, ◌++◌, length, take, drop, replicate, slice_index}
+use Rattle.std.specs.Prelude.{ℕ, ◌-◌, ◌==◌, ◌&&◌, ◌||◌, nat_le, Bool, List, [], ◌∷◌, ◌++◌, length, take, drop}
+use Rattle.std.specs.Prelude.{replicate, slice_index}
 use Rattle.std.specs.Int.{w16, w32, from_le_bytes, to_le_bytes}
 use Rattle.std.specs.List.{list_all}
 use Rattle.mav_ftp.specs.declared.payload.FtpFields.{FtpFields}

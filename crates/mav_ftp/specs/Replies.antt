@@ -10,7 +10,14 @@ next_seq seq = (seq + 1) % 65536
 -- a reply to a request, by its opcode, session and data
 abbrev pub reply_of : FtpFields → ℕ → ℕ → List ℕ → List ℕ
 reply_of r opcode session bytes =
-    ftp_payload (record { seq = next_seq r.seq; session = session; opcode = opcode; size = length bytes; req_opcode = r.opcode; offset = r.offset }) bytes
+    ftp_payload (record {
+      seq = next_seq r.seq;
+      session = session;
+      opcode = opcode;
+      size = length bytes;
+      req_opcode = r.opcode;
+      offset = r.offset;
+    }) bytes
 
 -- an ACK of a session, and a NAK, whose one byte of data is the error
 abbrev pub ack_of : FtpFields → ℕ → List ℕ → List ℕ

@@ -31,8 +31,8 @@ storage_of st = record { files = st.files; sessions = st.sessions }
 abbrev pub served : FilesState → Stream → List ℕ → Served
 served st from payload = storage_step (storage_of st) from (fields_of payload) (sized_data payload)
 
--- the reply to a request, and the state after it: one that is sent again gets the reply that is kept and changes nothing,
--- and of a new stream that can't be kept one is refused
+-- the reply to a request, and the state after it: one that is sent again gets the reply that is kept and changes
+-- nothing, and of a new stream that can't be kept one is refused
 abbrev pub new_reply : FilesState → Stream → List ℕ → List ℕ
 new_reply st from payload =
     if is_full_for st.exchanges from then nak_of (fields_of payload) fail else (served st from payload).reply
@@ -52,7 +52,8 @@ kept_after st from payload s = record {
 }
 
 abbrev pub new_state : FilesState → Stream → List ℕ → FilesState
-new_state st from payload = if is_full_for st.exchanges from then st else kept_after st from payload (served st from payload)
+new_state st from payload = if is_full_for st.exchanges from then st
+    else kept_after st from payload (served st from payload)
 
 abbrev pub state_unless : FilesState → FilesState → Option (List ℕ) → FilesState
 state_unless st new None = new

@@ -1,5 +1,6 @@
 -- Sessions, each of the stream that opened it (MAVLink guide, File Transfer Protocol: Sessions).
-use Rattle.std.specs.Prelude.{ℕ, ◌+◌, if◌then◌else◌, Bool, not, List, ◌++◌, length, take, drop, map, position, slice_get, is_some, Option, Some, None}
+use Rattle.std.specs.Prelude.{ℕ, ◌+◌, if◌then◌else◌, Bool, not, List, ◌++◌, length, take, drop, map, position}
+use Rattle.std.specs.Prelude.{slice_get, is_some, Option, Some, None}
 use Rattle.mav_names.specs.declared.names.Stream.{Stream}
 use Rattle.mav_names.specs.Addresses.{same_stream}
 

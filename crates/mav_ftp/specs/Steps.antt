@@ -1,10 +1,14 @@
 -- What each opcode does to files and sessions, and its reply (MAVLink guide, File Transfer Protocol: Opcodes).
-use Rattle.std.specs.Prelude.{ℕ, ◌+◌, ◌==◌, ◌&&◌, ◌||◌, nat_lt, nat_le, not, if◌then◌else◌, Bool, List, [], ◌∷◌, ◌++◌, length, take, drop, slice_set, is_some, Option, Some, None}
+use Rattle.std.specs.Prelude.{ℕ, ◌+◌, ◌==◌, ◌&&◌, ◌||◌, nat_lt, nat_le, not, if◌then◌else◌, Bool, List, [], ◌∷◌, ◌++◌}
+use Rattle.std.specs.Prelude.{length, take, drop, slice_set, is_some, Option, Some, None}
 use Rattle.std.specs.Int.{w32, to_le_bytes}
 use Rattle.std.specs.List.{remove}
 use Rattle.mav_names.specs.declared.names.Stream.{Stream}
 use Rattle.mav_ftp.specs.declared.payload.FtpFields.{FtpFields}
-use Rattle.mav_ftp.specs.Payload.{most_data, most_file, terminate_session, reset_sessions, list_directory, open_file_ro, read_file, create_file, write_file, remove_file, fail, invalid_data_size, invalid_session, no_sessions_available, end_of_file, unknown_command, file_exists, file_not_found, is_file_name}
+use Rattle.mav_ftp.specs.Payload.{most_data, most_file, terminate_session, reset_sessions, list_directory}
+use Rattle.mav_ftp.specs.Payload.{open_file_ro, read_file, create_file, write_file, remove_file, fail}
+use Rattle.mav_ftp.specs.Payload.{invalid_data_size, invalid_session, no_sessions_available, end_of_file}
+use Rattle.mav_ftp.specs.Payload.{unknown_command, file_exists, file_not_found, is_file_name}
 use Rattle.mav_ftp.specs.Replies.{ack_of, nak_of}
 use Rattle.mav_ftp.specs.Files.{File, most_files, file_at, bytes_named}
 use Rattle.mav_ftp.specs.Sessions.{Session, session_of, free_session, sessions_without, overwritten}
@@ -70,7 +74,8 @@ opens st from r (Some bytes) (Some number) =
 abbrev pub reads_from : Storage → FtpFields → Option (List ℕ) → List ℕ → Served
 reads_from st r (Some name) bytes = refuses st r invalid_session
 reads_from st r None bytes =
-    if nat_lt r.offset (length bytes) then accepts st r (take r.size (drop r.offset bytes)) else refuses st r end_of_file
+    if nat_lt r.offset (length bytes) then accepts st r (take r.size (drop r.offset bytes))
+    else refuses st r end_of_file
 
 abbrev pub reads : Storage → FtpFields → Option Session → Served
 reads st r None = refuses st r invalid_session
@@ -79,7 +84,8 @@ reads st r (Some s) = reads_from st r s.name s.bytes
 -- CreateFile
 abbrev pub creates_in : Storage → Stream → FtpFields → List ℕ → Option ℕ → Served
 creates_in st from r name None = refuses st r no_sessions_available
-creates_in st from r name (Some number) = opens_session st r number (record { stream = from; name = Some name; bytes = [] }) []
+creates_in st from r name (Some number) =
+    opens_session st r number (record { stream = from; name = Some name; bytes = [] }) []
 
 abbrev pub creates : Storage → Stream → FtpFields → List ℕ → Served
 creates st from r name =

@@ -1,6 +1,8 @@
 // The station's side of file transfer.
 ghost use Rattle.std.specs.Prelude.{◌≡◌, None, Some, is_some, IfOk, IfErr, OnOk, OnErr};
-ghost use Rattle.mav_ftp.specs.Client.{no_transfer, request_seq, request_of, transfer_request, list_order, fetch_order, store_order, remove_order, order_fault, ordered, after_course, transfer_step, step_answer, transfer_tick, tick_answer};
+ghost use Rattle.mav_ftp.specs.Client.{no_transfer, request_seq, request_of, transfer_request, list_order};
+ghost use Rattle.mav_ftp.specs.Client.{fetch_order, store_order, remove_order, order_fault, ordered, after_course};
+ghost use Rattle.mav_ftp.specs.Client.{transfer_step, step_answer, transfer_tick, tick_answer};
 ghost use Rattle.mav_ftp.specs.ClientView.{course_of};
 
 mod ends;
@@ -19,8 +21,8 @@ use std::alloc::Global;
 use std::marker::Model;
 use transfers::{Course, IDLE_LIMIT, OpenTransfer, next_seq};
 
-/// A client of one server: it lists, fetches, stores or removes, one operation at a time. Its request is sent again at each
-/// tick that brought no reply, up to a limit (MAVLink guide, File Transfer Protocol).
+/// A client of one server: it lists, fetches, stores or removes, one operation at a time. Its request is sent again at
+/// each tick that brought no reply, up to a limit (MAVLink guide, File Transfer Protocol).
 #[derive(Drop)]
 pub struct FtpClient {
     alloc: Global,

@@ -1,8 +1,8 @@
 //! MAVLink FTP as state machines without links or clocks, of this profile: files without directories, read and written
 //! piece by piece. An `FtpServer` on a drone keeps files, sessions and the last reply to each stream; payloads of
-//! FILE_TRANSFER_PROTOCOL go in and come out. An `FtpClient` on a station lists, fetches, stores and removes files. They are
-//! defined by total functions in specs/ (`reply_to`, `files_after`, `transfer_step`, `transfer_tick`), and want of memory
-//! changes nothing.
+//! FILE_TRANSFER_PROTOCOL go in and come out. An `FtpClient` on a station lists, fetches, stores and removes files.
+//! They are defined by total functions in specs/ (`reply_to`, `files_after`, `transfer_step`, `transfer_tick`), and
+//! want of memory changes nothing.
 #![tactic(auto)]
 
 mod client;

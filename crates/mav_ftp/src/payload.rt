@@ -1,7 +1,8 @@
 // The payload of FILE_TRANSFER_PROTOCOL (MAVLink guide, File Transfer Protocol: Payload Format).
 ghost use Rattle.std.specs.Prelude.{◌≡◌, ◌+◌, ◌≤◌, ◌++◌, length, take, drop};
 ghost use Rattle.std.specs.List.{list_all};
-ghost use Rattle.mav_ftp.specs.Payload.{fields_of, data_of, sized_data, ftp_header, ftp_payload, is_name_byte, is_file_name, most_data};
+ghost use Rattle.mav_ftp.specs.Payload.{fields_of, data_of, sized_data, ftp_header, ftp_payload, is_name_byte};
+ghost use Rattle.mav_ftp.specs.Payload.{is_file_name, most_data};
 
 /// The bytes of a payload before its data.
 pub const HEADER_BYTES: usize = 12;

@@ -115,7 +115,8 @@ impl OpenSession {
     pub fn put(&mut self, request: &FtpFields, bytes: &[u8]) -> Result<(), NoMemory>
         requires few { length bytes.now ≤ 239 }
         requires right { write_error request.now bytes.now self.old ≡ None }
-        ensures ok { OnOk result (self.new ≡ with_bytes self.old (overwritten self.old.bytes request.now.offset bytes.now)) }
+        ensures ok { OnOk result (self.new ≡ with_bytes self.old
+            (overwritten self.old.bytes request.now.offset bytes.now)) }
         ensures err { OnErr result (self.new ≡ self.old) }
     {
         overwrite(&mut self.bytes, request.offset as usize, bytes)

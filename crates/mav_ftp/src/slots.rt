@@ -78,8 +78,11 @@ impl Slots {
     pub fn put(&mut self, stream: Stream, request: &FtpFields, bytes: &[u8]) -> Result<(), NoMemory>
         requires within { request.now.session < 4 }
         requires few { length bytes.now ≤ 239 }
-        requires right { IfSome (session_of self.old stream request.now.session) (λ s. write_error request.now bytes.now s ≡ None) }
-        ensures ok { OnOk result (IfSome (session_of self.old stream request.now.session) (λ s. self.new ≡ slice_set self.old request.now.session (Some (with_bytes s (overwritten s.bytes request.now.offset bytes.now))))) }
+        requires right { IfSome (session_of self.old stream request.now.session)
+            (λ s. write_error request.now bytes.now s ≡ None) }
+        ensures ok { OnOk result (IfSome (session_of self.old stream request.now.session)
+            (λ s. self.new ≡ slice_set self.old request.now.session
+            (Some (with_bytes s (overwritten s.bytes request.now.offset bytes.now))))) }
         ensures err { OnErr result (self.new ≡ self.old) }
     {
         match &mut self.slots[usize::from(request.session)] {

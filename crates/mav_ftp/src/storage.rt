@@ -4,7 +4,8 @@ ghost use Rattle.std.specs.Option.{option_map};
 ghost use Rattle.mav_ftp.specs.Payload.{most_file};
 ghost use Rattle.mav_ftp.specs.Files.{file_at, bytes_named};
 ghost use Rattle.mav_ftp.specs.Sessions.{session_of, free_session};
-ghost use Rattle.mav_ftp.specs.Steps.{publishes, terminates, resets, lists, opens, reads, creates, writes, removes, serves, is_known, storage_step};
+ghost use Rattle.mav_ftp.specs.Steps.{publishes, terminates, resets, lists, opens, reads, creates, writes, removes};
+ghost use Rattle.mav_ftp.specs.Steps.{serves, is_known, storage_step};
 ghost use Rattle.mav_ftp.specs.Server.{no_sessions};
 
 use crate::NoMemory;
@@ -84,8 +85,10 @@ impl Storage {
     }
 
     fn terminate(&mut self, from: Stream, request: &FtpFields) -> [u8; 251]
-        ensures storage { self.new ≡ (terminates self.old request.now (session_of self.old.sessions from request.now.session)).storage }
-        ensures reply { result ≡ (terminates self.old request.now (session_of self.old.sessions from request.now.session)).reply }
+        ensures storage { self.new ≡ (terminates self.old request.now
+            (session_of self.old.sessions from request.now.session)).storage }
+        ensures reply { result ≡ (terminates self.old request.now
+            (session_of self.old.sessions from request.now.session)).reply }
     {
         let Some(session) = self.sessions.close(from, request.session) else {
             return nak(request, FtpError::INVALID_SESSION);
@@ -125,8 +128,10 @@ impl Storage {
         request: &FtpFields,
         name: &[u8],
     ) -> Result<[u8; 251], NoMemory>
-        ensures storage { OnOk result (self.new ≡ (opens self.old from request.now (bytes_named self.old.files name.now) (free_session self.old.sessions)).storage) }
-        ensures reply { IfOk result (λ r. r ≡ (opens self.old from request.now (bytes_named self.old.files name.now) (free_session self.old.sessions)).reply) }
+        ensures storage { OnOk result (self.new ≡ (opens self.old from request.now
+            (bytes_named self.old.files name.now) (free_session self.old.sessions)).storage) }
+        ensures reply { IfOk result (λ r. r ≡ (opens self.old from request.now (bytes_named self.old.files name.now)
+            (free_session self.old.sessions)).reply) }
         ensures err { OnErr result (self.new ≡ self.old) }
     {
         let Some(bytes) = self.files.bytes(name) else {
@@ -143,8 +148,10 @@ impl Storage {
 
     fn read(&self, from: Stream, request: &FtpFields) -> [u8; 251]
         requires { request.now.size ≤ 239 }
-        ensures storage { self.now ≡ (reads self.now request.now (session_of self.now.sessions from request.now.session)).storage }
-        ensures reply { result ≡ (reads self.now request.now (session_of self.now.sessions from request.now.session)).reply }
+        ensures storage { self.now ≡ (reads self.now request.now
+            (session_of self.now.sessions from request.now.session)).storage }
+        ensures reply { result ≡ (reads self.now request.now
+            (session_of self.now.sessions from request.now.session)).reply }
     {
         let Some(session) = self.sessions.of(from, request.session) else {
             return nak(request, FtpError::INVALID_SESSION);
@@ -189,8 +196,10 @@ impl Storage {
         bytes: &[u8],
     ) -> Result<[u8; 251], NoMemory>
         requires { length bytes.now ≤ 239 }
-        ensures storage { OnOk result (self.new ≡ (writes self.old request.now bytes.now (session_of self.old.sessions from request.now.session)).storage) }
-        ensures reply { IfOk result (λ r. r ≡ (writes self.old request.now bytes.now (session_of self.old.sessions from request.now.session)).reply) }
+        ensures storage { OnOk result (self.new ≡ (writes self.old request.now bytes.now
+            (session_of self.old.sessions from request.now.session)).storage) }
+        ensures reply { IfOk result (λ r. r ≡ (writes self.old request.now bytes.now
+            (session_of self.old.sessions from request.now.session)).reply) }
         ensures err { OnErr result (self.new ≡ self.old) }
     {
         let Some(session) = self.sessions.of(from, request.session) else {

@@ -25,7 +25,8 @@ skips_of (SkipEvent byte why) = 1
 
 -- `OFFSET MICROS NAME SYS.COMP #SEQ field=value ..`; a row of a parse has the id of a message
 abbrev pub row_line : List Definition → ℕ → Row → List ℕ
-row_line known offset row = decimal offset ++ 32 ∷ line_of (definition_with row.frame.id known) row.micros row.frame (10 ∷ [])
+row_line known offset row = decimal offset ++ 32
+    ∷ line_of (definition_with row.frame.id known) row.micros row.frame (10 ∷ [])
 
 -- the line of a row, or of a skipped byte
 abbrev pub event_line : List Definition → ℕ → LogEvent → List ℕ

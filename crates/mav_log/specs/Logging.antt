@@ -15,8 +15,10 @@ log_spec LogFilter known number = filter_spec known number
 log_spec LogMake known number = make_spec known number
 log_spec _ known number = show_spec known
 
--- definitions that are named are read first; then the command runs over the main input, by the number that its words say
-abbrev pub Logs : Command → List (List ℕ) → (named_defs : Bool) → (CommandSpec → Input → Type 0) → (halted : Type 0) → (defs main : Input) → Type 0
+-- definitions that are named are read first; then the command runs over the main input, by the number that its words
+-- say
+abbrev pub Logs : Command → List (List ℕ) → (named_defs : Bool) → (CommandSpec → Input → Type 0) → (halted : Type 0)
+    → (defs main : Input) → Type 0
 Logs command plain named_defs runs halted defs main =
     (number : ℕ) × NumberSays command plain number
     × WithDefinitions named_defs runs halted main.unread defs (λ ds. runs (log_spec command ds number) main)

@@ -13,7 +13,8 @@ use Rattle.run_status.specs.Runs.{CommandSpec}
 abbrev pub show_telling : List Definition → Telling
 show_telling known = record {
   told = λ ended b. lines_from known 0 (log_events (extras_of known) ended b);
-  closing = λ b. counts_line (rows_in (log_events (extras_of known) true b)) (skips_in (log_events (extras_of known) true b));
+  closing = λ b. counts_line (rows_in (log_events (extras_of known) true b))
+      (skips_in (log_events (extras_of known) true b));
 }
 
 -- `log filter`: the rows of a system as they are

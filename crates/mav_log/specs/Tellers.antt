@@ -1,5 +1,6 @@
 -- What the commands have told of an input.
-use Rattle.std.specs.Prelude.{ℕ, ◌≡◌, ◌<◌, ◌≤◌, ◌+◌, ◌*◌, Bool, true, List, [], ◌∷◌, ◌++◌, length, take, drop, slice_index, ⊤}
+use Rattle.std.specs.Prelude.{ℕ, ◌≡◌, ◌<◌, ◌≤◌, ◌+◌, ◌*◌, Bool, true, List, [], ◌∷◌, ◌++◌, length, take, drop}
+use Rattle.std.specs.Prelude.{slice_index, ⊤}
 use Rattle.field_layout.specs.Definition.{Definition}
 use Rattle.mav_profile.specs.Messages.{extras_of}
 use Rattle.mav_frame.specs.declared.events.Event.{Event}
@@ -25,7 +26,8 @@ IsRowOf b size =
 
 -- a reader gave an event, and holds the rest
 abbrev pub GaveEvent : LogEvent → LogHeld → LogHeld → Type 0
-GaveEvent event old new = (table : List (ℕ × ℕ)) (taken : List ℕ) (given : List LogEvent) → LogProgress table taken given old → LogProgress table taken (given ++ event ∷ []) new
+GaveEvent event old new = (table : List (ℕ × ℕ)) (taken : List ℕ) (given : List LogEvent)
+    → LogProgress table taken given old → LogProgress table taken (given ++ event ∷ []) new
 
 -- a row of so many bytes comes next, or a byte that is in none
 pub record IsRowNext (held : LogHeld) (size : ℕ) : Type 0 where
@@ -46,10 +48,12 @@ IsEventNext held Need = ⊤
 -- what comes next, and what follows of it: at Need all events were given, and there is room for a piece
 pub record IsNextOfLog (held : LogHeld) (span : NextSpan) : Type 0 where
   pub event : IsEventNext held span
-  pub whole : (table : List (ℕ × ℕ)) (taken : List ℕ) (given : List LogEvent) → LogProgress table taken given held → IfNeed span (IsWholeLog table taken given held)
+  pub whole : (table : List (ℕ × ℕ)) (taken : List ℕ) (given : List LogEvent) → LogProgress table taken given held
+      → IfNeed span (IsWholeLog table taken given held)
   pub room : IfNeed span (length held.bytes < 288)
 
--- `log show`: the messages that are known, what is held of the log, the offset of the next event, and the counts so far
+-- `log show`: the messages that are known, what is held of the log, the offset of the next event, and the counts so
+-- far
 pub record Showing : Type 0 where
   pub known : List Definition
   pub reader : LogHeld
@@ -88,8 +92,8 @@ pub record HasKept (f : Filtering) (ended : Bool) (taken told : List ℕ) : Type
   pub progress : LogProgress (extras_of f.known) taken given f.reader
   pub kept : told ≡ rows_of_system f.sys given
 
--- `log make`: the messages that are known, the time of the first frame, what is held of the stream, and how many frames
--- were made to rows
+-- `log make`: the messages that are known, the time of the first frame, what is held of the stream, and how many
+-- frames were made to rows
 pub record Making : Type 0 where
   pub known : List Definition
   pub start : ℕ

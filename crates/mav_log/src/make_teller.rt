@@ -69,8 +69,10 @@ impl Make {
         requires few { self.old.rows ≤ most_load }
         ensures text { OnOk result (text.new.items ≡ text.old.items ++ row_encoding
             (record { micros = self.old.start + 1000 * self.old.rows; frame = first_packet self.old.reader })) }
-        ensures made { OnOk result (self.new ≡ record self.old
-            { reader = record self.old.reader { bytes = drop size self.old.reader.bytes }; rows = self.old.rows + 1 }) }
+        ensures made { OnOk result (self.new ≡ record self.old {
+          reader = record self.old.reader { bytes = drop size self.old.reader.bytes };
+          rows = self.old.rows + 1;
+        }) }
         ensures unmade { OnErr result (self.new ≡ self.old) }
     {
         let micros = self.start + INTERVAL * self.rows;

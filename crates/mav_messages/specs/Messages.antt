@@ -1,10 +1,30 @@
 -- What a message represents: its definition, and its values.
 use Rattle.std.specs.Prelude.{ℕ, ◌==◌, List, find, Option}
 use Rattle.field_layout.specs.Definition.{Definition}
-use Rattle.mav_profile.specs.Profile.{profile_definitions, heartbeat_definition, ping_definition, param_request_read_definition, param_request_list_definition, param_value_definition, param_set_definition, global_position_int_definition, mission_current_definition, mission_request_list_definition, mission_count_definition, mission_clear_all_definition, mission_item_reached_definition, mission_ack_definition, mission_request_int_definition, mission_item_int_definition, command_long_definition, command_ack_definition, file_transfer_protocol_definition, statustext_definition}
+use Rattle.mav_profile.specs.Profile.{profile_definitions, heartbeat_definition, ping_definition}
+use Rattle.mav_profile.specs.Profile.{param_request_read_definition, param_request_list_definition}
+use Rattle.mav_profile.specs.Profile.{param_value_definition, param_set_definition, global_position_int_definition}
+use Rattle.mav_profile.specs.Profile.{mission_current_definition, mission_request_list_definition}
+use Rattle.mav_profile.specs.Profile.{mission_count_definition, mission_clear_all_definition}
+use Rattle.mav_profile.specs.Profile.{mission_item_reached_definition, mission_ack_definition}
+use Rattle.mav_profile.specs.Profile.{mission_request_int_definition, mission_item_int_definition}
+use Rattle.mav_profile.specs.Profile.{command_long_definition, command_ack_definition}
+use Rattle.mav_profile.specs.Profile.{file_transfer_protocol_definition, statustext_definition}
 use Rattle.mav_messages.specs.declared.messages.Message.{Message}
-use Rattle.mav_messages.specs.declared.messages.Message.TheVariants.{Heartbeat, Ping, ParamRequestRead, ParamRequestList, ParamValue, ParamSet, GlobalPositionInt, MissionCurrent, MissionRequestList, MissionCount, MissionClearAll, MissionItemReached, MissionAck, MissionRequestInt, MissionItemInt, CommandLong, CommandAck, FileTransferProtocol, Statustext}
-use Rattle.mav_messages.specs.Values.{heartbeat_values, ping_values, param_request_read_values, param_request_list_values, param_value_values, param_set_values, global_position_int_values, mission_current_values, mission_request_list_values, mission_count_values, mission_clear_all_values, mission_item_reached_values, mission_ack_values, mission_request_int_values, mission_item_int_values, command_long_values, command_ack_values, file_transfer_protocol_values, statustext_values}
+use Rattle.mav_messages.specs.declared.messages.Message.TheVariants.{Heartbeat, Ping, ParamRequestRead}
+use Rattle.mav_messages.specs.declared.messages.Message.TheVariants.{ParamRequestList, ParamValue, ParamSet}
+use Rattle.mav_messages.specs.declared.messages.Message.TheVariants.{GlobalPositionInt, MissionCurrent}
+use Rattle.mav_messages.specs.declared.messages.Message.TheVariants.{MissionRequestList, MissionCount, MissionClearAll}
+use Rattle.mav_messages.specs.declared.messages.Message.TheVariants.{MissionItemReached, MissionAck, MissionRequestInt}
+use Rattle.mav_messages.specs.declared.messages.Message.TheVariants.{MissionItemInt, CommandLong, CommandAck}
+use Rattle.mav_messages.specs.declared.messages.Message.TheVariants.{FileTransferProtocol, Statustext}
+use Rattle.mav_messages.specs.Values.{heartbeat_values, ping_values, param_request_read_values}
+use Rattle.mav_messages.specs.Values.{param_request_list_values, param_value_values, param_set_values}
+use Rattle.mav_messages.specs.Values.{global_position_int_values, mission_current_values, mission_request_list_values}
+use Rattle.mav_messages.specs.Values.{mission_count_values, mission_clear_all_values, mission_item_reached_values}
+use Rattle.mav_messages.specs.Values.{mission_ack_values, mission_request_int_values, mission_item_int_values}
+use Rattle.mav_messages.specs.Values.{command_long_values, command_ack_values, file_transfer_protocol_values}
+use Rattle.mav_messages.specs.Values.{statustext_values}
 
 -- the definition of that id, if the profile has one
 abbrev pub profile_definition : ℕ → Option Definition

@@ -6,7 +6,9 @@ use Rattle.plan_items.specs.declared.messages.PlanMsg.{PlanMsg}
 use Rattle.plan_items.specs.declared.messages.PlanMsg.TheVariants as plan
 use Rattle.mav_messages.specs.declared.mission_items.MissionItemInt.{MissionItemInt}
 use Rattle.mav_messages.specs.declared.messages.Message.{Message}
-use Rattle.mav_messages.specs.declared.messages.Message.TheVariants.{MissionCount, MissionRequestInt, MissionItemInt as CarriesItem, MissionAck, MissionRequestList, MissionClearAll, Ping}
+use Rattle.mav_messages.specs.declared.messages.Message.TheVariants.{MissionCount, MissionRequestInt}
+use Rattle.mav_messages.specs.declared.messages.Message.TheVariants.{MissionItemInt as CarriesItem, MissionAck}
+use Rattle.mav_messages.specs.declared.messages.Message.TheVariants.{MissionRequestList, MissionClearAll, Ping}
 
 -- an item for a node
 abbrev pub item_message : Name → ℕ → ℕ → Item → MissionItemInt

@@ -33,7 +33,8 @@ abbrev pub word32 : ℤ → List ℕ
 word32 number = one (cast_unsigned w32 number)
 
 abbrev pub heartbeat_values : Heartbeat → List (List ℕ)
-heartbeat_values m = one m.ty ∷ one m.autopilot ∷ one m.base_mode ∷ one m.custom_mode ∷ one m.system_status ∷ one m.mavlink_version ∷ []
+heartbeat_values m = one m.ty ∷ one m.autopilot ∷ one m.base_mode ∷ one m.custom_mode ∷ one m.system_status
+    ∷ one m.mavlink_version ∷ []
 
 abbrev pub ping_values : Ping → List (List ℕ)
 ping_values m = one m.time_usec ∷ one m.seq ∷ one m.target_system ∷ one m.target_component ∷ []
@@ -48,10 +49,12 @@ abbrev pub param_value_values : ParamValue → List (List ℕ)
 param_value_values m = m.param_id ∷ one m.param_value ∷ one m.param_type ∷ one m.param_count ∷ one m.param_index ∷ []
 
 abbrev pub param_set_values : ParamSet → List (List ℕ)
-param_set_values m = one m.target_system ∷ one m.target_component ∷ m.param_id ∷ one m.param_value ∷ one m.param_type ∷ []
+param_set_values m = one m.target_system ∷ one m.target_component ∷ m.param_id ∷ one m.param_value ∷ one m.param_type
+    ∷ []
 
 abbrev pub global_position_int_values : GlobalPositionInt → List (List ℕ)
-global_position_int_values m = one m.time_boot_ms ∷ word32 m.lat ∷ word32 m.lon ∷ word32 m.alt ∷ word32 m.relative_alt ∷ word16 m.vx ∷ word16 m.vy ∷ word16 m.vz ∷ one m.hdg ∷ []
+global_position_int_values m = one m.time_boot_ms ∷ word32 m.lat ∷ word32 m.lon ∷ word32 m.alt ∷ word32 m.relative_alt
+    ∷ word16 m.vx ∷ word16 m.vy ∷ word16 m.vz ∷ one m.hdg ∷ []
 
 abbrev pub mission_current_values : MissionCurrent → List (List ℕ)
 mission_current_values m = one m.seq ∷ []
@@ -75,13 +78,17 @@ abbrev pub mission_request_int_values : MissionRequestInt → List (List ℕ)
 mission_request_int_values m = one m.target_system ∷ one m.target_component ∷ one m.seq ∷ one m.mission_type ∷ []
 
 abbrev pub mission_item_int_values : MissionItemInt → List (List ℕ)
-mission_item_int_values m = one m.target_system ∷ one m.target_component ∷ one m.seq ∷ one m.frame ∷ one m.command ∷ one m.current ∷ one m.autocontinue ∷ one m.param1 ∷ one m.param2 ∷ one m.param3 ∷ one m.param4 ∷ word32 m.x ∷ word32 m.y ∷ one m.z ∷ one m.mission_type ∷ []
+mission_item_int_values m = one m.target_system ∷ one m.target_component ∷ one m.seq ∷ one m.frame ∷ one m.command
+    ∷ one m.current ∷ one m.autocontinue ∷ one m.param1 ∷ one m.param2 ∷ one m.param3 ∷ one m.param4 ∷ word32 m.x
+    ∷ word32 m.y ∷ one m.z ∷ one m.mission_type ∷ []
 
 abbrev pub command_long_values : CommandLong → List (List ℕ)
-command_long_values m = one m.target_system ∷ one m.target_component ∷ one m.command ∷ one m.confirmation ∷ one m.param1 ∷ one m.param2 ∷ one m.param3 ∷ one m.param4 ∷ one m.param5 ∷ one m.param6 ∷ one m.param7 ∷ []
+command_long_values m = one m.target_system ∷ one m.target_component ∷ one m.command ∷ one m.confirmation
+    ∷ one m.param1 ∷ one m.param2 ∷ one m.param3 ∷ one m.param4 ∷ one m.param5 ∷ one m.param6 ∷ one m.param7 ∷ []
 
 abbrev pub command_ack_values : CommandAck → List (List ℕ)
-command_ack_values m = one m.command ∷ one m.result ∷ one m.progress ∷ word32 m.result_param2 ∷ one m.target_system ∷ one m.target_component ∷ []
+command_ack_values m = one m.command ∷ one m.result ∷ one m.progress ∷ word32 m.result_param2 ∷ one m.target_system
+    ∷ one m.target_component ∷ []
 
 abbrev pub file_transfer_protocol_values : FileTransferProtocol → List (List ℕ)
 file_transfer_protocol_values m = one m.target_network ∷ one m.target_system ∷ one m.target_component ∷ m.payload ∷ []

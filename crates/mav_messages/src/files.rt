@@ -21,7 +21,8 @@ impl FileTransferProtocol {
 
     pub(crate) fn write(&self, payload: &mut Buffer)
         requires { payload.old ≡ [] }
-        ensures bytes { payload.new ≡ serialised file_transfer_protocol_definition (file_transfer_protocol_values self.now) }
+        ensures bytes { payload.new ≡ serialised file_transfer_protocol_definition
+            (file_transfer_protocol_values self.now) }
         ensures fits { FitsLayout file_transfer_protocol_definition (file_transfer_protocol_values self.now) }
     {
         payload.put_u8(self.target_network);

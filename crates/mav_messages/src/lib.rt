@@ -1,9 +1,9 @@
 //! The nineteen messages of the profile as values: the crates above use `Message` and its fields, and never
 //! byte offsets.
 //!
-//! `write` gives the truncated payload that the message's definition lays out, `serialise` writes all of its bytes into the
-//! caller's buffer, and `read` gives the message that a payload represents, whatever its length. All types are Copy, and
-//! nothing here allocates, sends or decides anything.
+//! `write` gives the truncated payload that the message's definition lays out, `serialise` writes all of its bytes
+//! into the caller's buffer, and `read` gives the message that a payload represents, whatever its length. All types
+//! are Copy, and nothing here allocates, sends or decides anything.
 #![tactic(auto)]
 
 mod codes;

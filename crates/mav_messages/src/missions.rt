@@ -1,8 +1,13 @@
 // Messages of the mission protocol (MAVLink common messages; MAVLink guide, Mission Protocol).
 ghost use Rattle.std.specs.Prelude.{◌≡◌, []};
 ghost use Rattle.field_layout.specs.Payload.{serialised, FitsLayout, Represents};
-ghost use Rattle.mav_profile.specs.Profile.{mission_current_definition, mission_request_list_definition, mission_count_definition, mission_clear_all_definition, mission_item_reached_definition, mission_ack_definition, mission_request_int_definition};
-ghost use Rattle.mav_messages.specs.Values.{mission_current_values, mission_request_list_values, mission_count_values, mission_clear_all_values, mission_item_reached_values, mission_ack_values, mission_request_int_values};
+ghost use Rattle.mav_profile.specs.Profile.{mission_current_definition, mission_request_list_definition};
+ghost use Rattle.mav_profile.specs.Profile.{mission_count_definition, mission_clear_all_definition};
+ghost use Rattle.mav_profile.specs.Profile.{mission_item_reached_definition, mission_ack_definition};
+ghost use Rattle.mav_profile.specs.Profile.{mission_request_int_definition};
+ghost use Rattle.mav_messages.specs.Values.{mission_current_values, mission_request_list_values, mission_count_values};
+ghost use Rattle.mav_messages.specs.Values.{mission_clear_all_values, mission_item_reached_values, mission_ack_values};
+ghost use Rattle.mav_messages.specs.Values.{mission_request_int_values};
 
 use crate::words::{Padded, u8_at, u16_at};
 use field_layout::Buffer;
@@ -46,7 +51,8 @@ impl MissionRequestList {
 
     pub(crate) fn write(&self, payload: &mut Buffer)
         requires { payload.old ≡ [] }
-        ensures bytes { payload.new ≡ serialised mission_request_list_definition (mission_request_list_values self.now) }
+        ensures bytes { payload.new ≡ serialised mission_request_list_definition
+            (mission_request_list_values self.now) }
         ensures fits { FitsLayout mission_request_list_definition (mission_request_list_values self.now) }
     {
         payload.put_u8(self.target_system);
@@ -143,7 +149,8 @@ impl MissionItemReached {
 
     pub(crate) fn write(&self, payload: &mut Buffer)
         requires { payload.old ≡ [] }
-        ensures bytes { payload.new ≡ serialised mission_item_reached_definition (mission_item_reached_values self.now) }
+        ensures bytes { payload.new ≡ serialised mission_item_reached_definition
+            (mission_item_reached_values self.now) }
         ensures fits { FitsLayout mission_item_reached_definition (mission_item_reached_values self.now) }
     {
         payload.put_u16(self.seq);

@@ -1,8 +1,10 @@
 // Messages of nodes about themselves (MAVLink common messages).
 ghost use Rattle.std.specs.Prelude.{◌≡◌, []};
 ghost use Rattle.field_layout.specs.Payload.{serialised, FitsLayout, Represents};
-ghost use Rattle.mav_profile.specs.Profile.{heartbeat_definition, ping_definition, global_position_int_definition, statustext_definition};
-ghost use Rattle.mav_messages.specs.Values.{heartbeat_values, ping_values, global_position_int_values, statustext_values};
+ghost use Rattle.mav_profile.specs.Profile.{heartbeat_definition, ping_definition, global_position_int_definition};
+ghost use Rattle.mav_profile.specs.Profile.{statustext_definition};
+ghost use Rattle.mav_messages.specs.Values.{heartbeat_values, ping_values, global_position_int_values};
+ghost use Rattle.mav_messages.specs.Values.{statustext_values};
 
 use crate::words::{Padded, bytes_at, i16_at, i32_at, u8_at, u16_at, u32_at, u64_at};
 use field_layout::Buffer;

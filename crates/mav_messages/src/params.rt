@@ -1,8 +1,10 @@
 // Messages of the parameter protocol (MAVLink common messages; MAVLink guide, Parameter Protocol).
 ghost use Rattle.std.specs.Prelude.{◌≡◌, []};
 ghost use Rattle.field_layout.specs.Payload.{serialised, FitsLayout, Represents};
-ghost use Rattle.mav_profile.specs.Profile.{param_request_read_definition, param_request_list_definition, param_value_definition, param_set_definition};
-ghost use Rattle.mav_messages.specs.Values.{param_request_read_values, param_request_list_values, param_value_values, param_set_values};
+ghost use Rattle.mav_profile.specs.Profile.{param_request_read_definition, param_request_list_definition};
+ghost use Rattle.mav_profile.specs.Profile.{param_value_definition, param_set_definition};
+ghost use Rattle.mav_messages.specs.Values.{param_request_read_values, param_request_list_values, param_value_values};
+ghost use Rattle.mav_messages.specs.Values.{param_set_values};
 
 use crate::words::{Padded, bytes_at, i16_at, u8_at, u16_at, u32_at};
 use field_layout::Buffer;

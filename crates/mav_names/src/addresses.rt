@@ -1,6 +1,7 @@
 // Who a message comes from and whom it is for.
 ghost use Rattle.std.specs.Prelude.{◌≡◌};
-ghost use Rattle.mav_names.specs.Addresses.{same_stream, same_name, node_of, everyone, drone_name, drone_stream, is_for_node};
+ghost use Rattle.mav_names.specs.Addresses.{same_stream, same_name, node_of, everyone, drone_name, drone_stream};
+ghost use Rattle.mav_names.specs.Addresses.{is_for_node};
 
 use crate::{Name, Stream};
 

@@ -26,7 +26,9 @@ abbrev pub heartbeat_definition : Definition
 heartbeat_definition = record {
   id = 0;
   name = codes "HEARTBEAT";
-  fields = single U8 (codes "type") ∷ single U8 (codes "autopilot") ∷ single U8 (codes "base_mode") ∷ single U32 (codes "custom_mode") ∷ single U8 (codes "system_status") ∷ single Version (codes "mavlink_version") ∷ [];
+  fields = single U8 (codes "type") ∷ single U8 (codes "autopilot") ∷ single U8 (codes "base_mode")
+      ∷ single U32 (codes "custom_mode") ∷ single U8 (codes "system_status") ∷ single Version (codes "mavlink_version")
+      ∷ [];
   extensions = [];
 }
 
@@ -34,7 +36,8 @@ abbrev pub ping_definition : Definition
 ping_definition = record {
   id = 4;
   name = codes "PING";
-  fields = single U64 (codes "time_usec") ∷ single U32 (codes "seq") ∷ target_system_field ∷ target_component_field ∷ [];
+  fields = single U64 (codes "time_usec") ∷ single U32 (codes "seq") ∷ target_system_field ∷ target_component_field
+      ∷ [];
   extensions = [];
 }
 
@@ -42,7 +45,8 @@ abbrev pub param_request_read_definition : Definition
 param_request_read_definition = record {
   id = 20;
   name = codes "PARAM_REQUEST_READ";
-  fields = target_system_field ∷ target_component_field ∷ array Char 16 (codes "param_id") ∷ single I16 (codes "param_index") ∷ [];
+  fields = target_system_field ∷ target_component_field ∷ array Char 16 (codes "param_id")
+      ∷ single I16 (codes "param_index") ∷ [];
   extensions = [];
 }
 
@@ -58,7 +62,8 @@ abbrev pub param_value_definition : Definition
 param_value_definition = record {
   id = 22;
   name = codes "PARAM_VALUE";
-  fields = array Char 16 (codes "param_id") ∷ single F32 (codes "param_value") ∷ single U8 (codes "param_type") ∷ single U16 (codes "param_count") ∷ single U16 (codes "param_index") ∷ [];
+  fields = array Char 16 (codes "param_id") ∷ single F32 (codes "param_value") ∷ single U8 (codes "param_type")
+      ∷ single U16 (codes "param_count") ∷ single U16 (codes "param_index") ∷ [];
   extensions = [];
 }
 
@@ -66,7 +71,8 @@ abbrev pub param_set_definition : Definition
 param_set_definition = record {
   id = 23;
   name = codes "PARAM_SET";
-  fields = target_system_field ∷ target_component_field ∷ array Char 16 (codes "param_id") ∷ single F32 (codes "param_value") ∷ single U8 (codes "param_type") ∷ [];
+  fields = target_system_field ∷ target_component_field ∷ array Char 16 (codes "param_id")
+      ∷ single F32 (codes "param_value") ∷ single U8 (codes "param_type") ∷ [];
   extensions = [];
 }
 
@@ -74,7 +80,9 @@ abbrev pub global_position_int_definition : Definition
 global_position_int_definition = record {
   id = 33;
   name = codes "GLOBAL_POSITION_INT";
-  fields = single U32 (codes "time_boot_ms") ∷ single I32 (codes "lat") ∷ single I32 (codes "lon") ∷ single I32 (codes "alt") ∷ single I32 (codes "relative_alt") ∷ single I16 (codes "vx") ∷ single I16 (codes "vy") ∷ single I16 (codes "vz") ∷ single U16 (codes "hdg") ∷ [];
+  fields = single U32 (codes "time_boot_ms") ∷ single I32 (codes "lat") ∷ single I32 (codes "lon")
+      ∷ single I32 (codes "alt") ∷ single I32 (codes "relative_alt") ∷ single I16 (codes "vx")
+      ∷ single I16 (codes "vy") ∷ single I16 (codes "vz") ∷ single U16 (codes "hdg") ∷ [];
   extensions = [];
 }
 
@@ -138,7 +146,10 @@ abbrev pub mission_item_int_definition : Definition
 mission_item_int_definition = record {
   id = 73;
   name = codes "MISSION_ITEM_INT";
-  fields = target_system_field ∷ target_component_field ∷ single U16 (codes "seq") ∷ single U8 (codes "frame") ∷ single U16 (codes "command") ∷ single U8 (codes "current") ∷ single U8 (codes "autocontinue") ∷ single F32 (codes "param1") ∷ single F32 (codes "param2") ∷ single F32 (codes "param3") ∷ single F32 (codes "param4") ∷ single I32 (codes "x") ∷ single I32 (codes "y") ∷ single F32 (codes "z") ∷ [];
+  fields = target_system_field ∷ target_component_field ∷ single U16 (codes "seq") ∷ single U8 (codes "frame")
+      ∷ single U16 (codes "command") ∷ single U8 (codes "current") ∷ single U8 (codes "autocontinue")
+      ∷ single F32 (codes "param1") ∷ single F32 (codes "param2") ∷ single F32 (codes "param3")
+      ∷ single F32 (codes "param4") ∷ single I32 (codes "x") ∷ single I32 (codes "y") ∷ single F32 (codes "z") ∷ [];
   extensions = mission_type_field ∷ [];
 }
 
@@ -146,7 +157,10 @@ abbrev pub command_long_definition : Definition
 command_long_definition = record {
   id = 76;
   name = codes "COMMAND_LONG";
-  fields = target_system_field ∷ target_component_field ∷ single U16 (codes "command") ∷ single U8 (codes "confirmation") ∷ single F32 (codes "param1") ∷ single F32 (codes "param2") ∷ single F32 (codes "param3") ∷ single F32 (codes "param4") ∷ single F32 (codes "param5") ∷ single F32 (codes "param6") ∷ single F32 (codes "param7") ∷ [];
+  fields = target_system_field ∷ target_component_field ∷ single U16 (codes "command")
+      ∷ single U8 (codes "confirmation") ∷ single F32 (codes "param1") ∷ single F32 (codes "param2")
+      ∷ single F32 (codes "param3") ∷ single F32 (codes "param4") ∷ single F32 (codes "param5")
+      ∷ single F32 (codes "param6") ∷ single F32 (codes "param7") ∷ [];
   extensions = [];
 }
 
@@ -155,14 +169,16 @@ command_ack_definition = record {
   id = 77;
   name = codes "COMMAND_ACK";
   fields = single U16 (codes "command") ∷ single U8 (codes "result") ∷ [];
-  extensions = single U8 (codes "progress") ∷ single I32 (codes "result_param2") ∷ target_system_field ∷ target_component_field ∷ [];
+  extensions = single U8 (codes "progress") ∷ single I32 (codes "result_param2") ∷ target_system_field
+      ∷ target_component_field ∷ [];
 }
 
 abbrev pub file_transfer_protocol_definition : Definition
 file_transfer_protocol_definition = record {
   id = 110;
   name = codes "FILE_TRANSFER_PROTOCOL";
-  fields = single U8 (codes "target_network") ∷ target_system_field ∷ target_component_field ∷ array U8 251 (codes "payload") ∷ [];
+  fields = single U8 (codes "target_network") ∷ target_system_field ∷ target_component_field
+      ∷ array U8 251 (codes "payload") ∷ [];
   extensions = [];
 }
 

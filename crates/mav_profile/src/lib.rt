@@ -1,5 +1,5 @@
-//! The messages of the profile (MAVLink common message set): their definitions, which contracts refer to, and the table
-//! of their CRC_EXTRA bytes.
+//! The messages of the profile (MAVLink common message set): their definitions, which contracts refer to, and the
+//! table of their CRC_EXTRA bytes.
 #![tactic(auto)]
 
 ghost use Rattle.std.specs.Prelude.{◌≡◌};

@@ -12,7 +12,8 @@ use Rattle.mav_router.specs.Journal.{Rules}
 use Rattle.mav_router.specs.Parts.{IsReady, PartSoFar, PartEnds}
 
 -- a part before and after its thread, which ended so
-pub record HasRun {A : Type 0} (halt : Halt) (state : A → LinkState) (lock : Lock SwitchEvent) (rules : Rules) (turns : ℕ) (before after : Part A) : Type 0 where
+pub record HasRun {A : Type 0} (halt : Halt) (state : A → LinkState) (lock : Lock SwitchEvent) (rules : Rules)
+    (turns : ℕ) (before after : Part A) : Type 0 where
   pub ready : IsReady lock rules after
   pub port : after.port ≡ before.port
   pub ends : (first : LinkState) → PartSoFar state rules first before → PartEnds halt state rules turns first after

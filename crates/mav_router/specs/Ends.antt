@@ -20,15 +20,18 @@ use Rattle.mav_router.specs.Runs.{skips_of, ArePieces, joined_turns, idles_over}
 
 -- the parse of a port's input that isn't at its end
 abbrev pub IsOpenParse : Rules → ℕ → List Event → List ℕ → Type 0
-IsOpenParse rules port events bytes = (held : List ℕ) × Incremental (extras_of rules.known) (has_port rules.plain port) events held bytes
+IsOpenParse rules port events bytes = (held : List ℕ)
+    × Incremental (extras_of rules.known) (has_port rules.plain port) events held bytes
 
 -- the final parse of a port's input of which nothing is left
 abbrev pub IsClosedParse : Rules → ℕ → List Event → List ℕ → Option (List ℕ) → Type 0
-IsClosedParse rules port events bytes left = Final (extras_of rules.known) (has_port rules.plain port) events bytes × IsSpent left
+IsClosedParse rules port events bytes left = Final (extras_of rules.known) (has_port rules.plain port) events bytes
+    × IsSpent left
 
 abbrev pub ParsedBy : How → Rules → ℕ → List Event → List ℕ → Option (List ℕ) → Type 0
 ParsedBy Ended rules port events bytes left = IsClosedParse rules port events bytes left
-ParsedBy Failed rules port events bytes left = IsOpenParse rules port events bytes ⊎ IsClosedParse rules port events bytes left
+ParsedBy Failed rules port events bytes left = IsOpenParse rules port events bytes
+    ⊎ IsClosedParse rules port events bytes left
 ParsedBy (Turns n) rules port events bytes left = IsOpenParse rules port events bytes
 
 -- all of it was written, or a prefix of it if the port failed
@@ -67,7 +70,8 @@ end_by lane turns = record {
 }
 
 -- the run of one port, of which at most so many reads may give bytes or return Idle
-pub record PortRun (rules : Rules) (journal : List Entry) (most port : ℕ) (first last : LinkState) (end : PortEnd) : Type 0 where
+pub record PortRun (rules : Rules) (journal : List Entry) (most port : ℕ) (first last : LinkState)
+    (end : PortEnd) : Type 0 where
   -- the bytes read, their events, and the bytes written
   pub bytes : List ℕ
   pub events : List Event

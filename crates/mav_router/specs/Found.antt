@@ -36,14 +36,16 @@ pub record Keeps (port : ℕ) (before after : List Entry) (frames : List Packet)
   pub took : map (λ (entry : Entry). entry.frame) more ≡ frames
 
 -- a switch kept entries of a port with so many of these frames: with all of them, or at a fault with fewer
-pub record Admits {A E : Type 0} (result : Result A E) (port : ℕ) (before after : List Entry) (frames : List Packet) : Type 0 where
+pub record Admits {A E : Type 0} (result : Result A E) (port : ℕ) (before after : List Entry)
+    (frames : List Packet) : Type 0 where
   pub count : ℕ
   pub kept : Keeps port before after (take count frames)
   pub all : OnOk result (count ≡ length frames)
   pub some : OnErr result (count < length frames)
 
 -- of a port's entries: those after it are those before it and so many of these frames
-pub record Takes {A E : Type 0} (result : Result A E) (port : ℕ) (before after : List Entry) (frames : List Packet) : Type 0 where
+pub record Takes {A E : Type 0} (result : Result A E) (port : ℕ) (before after : List Entry)
+    (frames : List Packet) : Type 0 where
   pub count : ℕ
   pub took : frames_from port after ≡ frames_from port before ++ take count frames
   pub all : OnOk result (count ≡ length frames)

@@ -1,6 +1,7 @@
 -- The journal of a router: every frame that came in, with its verdict and the ports that it goes to (MAVLink guide,
 -- Routing; Message Signing, Accepting Signed Packets).
-use Rattle.std.specs.Prelude.{ℕ, ◌≡◌, ◌≤◌, ◌==◌, ◌-◌, ◌&&◌, Bool, if◌then◌else◌, List, [], ◌∷◌, ◌++◌, take, slice_get, slice_index, option_map, Option, Some, None, is_none, ⊤}
+use Rattle.std.specs.Prelude.{ℕ, ◌≡◌, ◌≤◌, ◌==◌, ◌-◌, ◌&&◌, Bool, if◌then◌else◌, List, [], ◌∷◌, ◌++◌, take, slice_get}
+use Rattle.std.specs.Prelude.{slice_index, option_map, Option, Some, None, is_none, ⊤}
 use Rattle.std.specs.List.{filter_map, flat_map}
 use Rattle.mav_names.specs.declared.names.Name.{Name}
 use Rattle.field_layout.specs.Definition.{Definition, base_len_of}
@@ -15,8 +16,8 @@ use Rattle.mav_sign.specs.Streams.{listed}
 use Rattle.link_table.specs.Routing.{Learned, ways_of, no_ways, common_ways, has_port}
 use Rattle.mav_router.specs.declared.entries.Entry.{Entry}
 
--- what a router goes by: the key of its links, the messages that it knows, how many ports it has, and which of them are
--- open to frames without a signature block
+-- what a router goes by: the key of its links, the messages that it knows, how many ports it has, and which of them
+-- are open to frames without a signature block
 pub record Rules : Type 0 where
   pub key : List ℕ
   pub known : List Definition
@@ -64,14 +65,16 @@ target_by rules packet = target_in (definition_with packet.id rules.known) packe
 -- the verdict on a frame at a port that is open or not, after a history: an open port admits each frame without a
 -- signature block
 abbrev pub verdict_on : List ℕ → Bool → List Tried → Packet → Admit
-verdict_on key is_open history packet = if is_open && is_unsigned packet then Admitted else answer_to key history packet
+verdict_on key is_open history packet = if is_open && is_unsigned packet then Admitted
+    else answer_to key history packet
 
 abbrev pub admit_after : Rules → List Entry → ℕ → Packet → Admit
 admit_after rules before port packet = verdict_on rules.key (has_port rules.plain port) (tried_in before) packet
 
 -- the ports that a frame goes to: one without a signature block to open ports alone, a refused one to none
 abbrev pub ways_by : Bool → Bool → List Bool → List Bool → List Bool
-ways_by admitted unsigned plain ways = if admitted then (if unsigned then common_ways ways plain else ways) else no_ways
+ways_by admitted unsigned plain ways = if admitted then (if unsigned then common_ways ways plain else ways)
+    else no_ways
 
 -- the entry of a frame that comes in at a port after these entries
 abbrev pub entry_after : Rules → List Entry → ℕ → Packet → Entry
@@ -79,7 +82,8 @@ entry_after rules before port packet = record {
   port = port;
   frame = packet;
   admit = admit_after rules before port packet;
-  ways = ways_by (is_admitted (admit_after rules before port packet)) (is_unsigned packet) rules.plain (ways_of rules.ports (learned_in before) port (target_by rules packet));
+  ways = ways_by (is_admitted (admit_after rules before port packet)) (is_unsigned packet) rules.plain
+      (ways_of rules.ports (learned_in before) port (target_by rules packet));
 }
 
 -- ports are numbered from 1
@@ -90,7 +94,8 @@ IsPortOf rules port = (1 ≤ port) × (port ≤ rules.ports)
 abbrev pub IsJournal : Rules → List Entry → List Entry → Type 0
 IsJournal rules before [] = ⊤
 IsJournal rules before (entry ∷ entries) =
-    IsPortOf rules entry.port × (entry ≡ entry_after rules before entry.port entry.frame) × IsJournal rules (before ++ entry ∷ []) entries
+    IsPortOf rules entry.port × (entry ≡ entry_after rules before entry.port entry.frame)
+    × IsJournal rules (before ++ entry ∷ []) entries
 
 -- the frames that came in at a port, and those that go out at it
 abbrev pub frame_from : ℕ → Entry → Option Packet

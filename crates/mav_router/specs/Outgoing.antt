@@ -23,7 +23,8 @@ pub record Continues (before after : List Packet) (text : List ℕ) : Type 0 whe
 
 -- the bytes of the frames that entries from one index up to another send to a port
 abbrev pub IsRun : ℕ → List Entry → ℕ → ℕ → List ℕ → Type 0
-IsRun port journal from to text = Continues (frames_to port (take from journal)) (frames_to port (take to journal)) text
+IsRun port journal from to text = Continues (frames_to port (take from journal))
+    (frames_to port (take to journal)) text
 
 -- they stand in a span
 pub record SpansRun (port : ℕ) (bytes : List ℕ) (heads : List Head) (from to : ℕ) (span : Span) : Type 0 where
@@ -40,16 +41,21 @@ pub record GivenBut (frames : List Packet) (first now : LinkState) (lane : Lane)
   pub output : Output done first now lane
 
 -- more entries of a journal were looked through for a port, and what they send there was written to it or waits
-pub record LooksOn (port : ℕ) (journal : List Entry) (from to : ℕ) (before after : LinkState) (lane new : Lane) (text longer : List ℕ) : Type 0 where
+pub record LooksOn (port : ℕ) (journal : List Entry) (from to : ℕ) (before after : LinkState) (lane new : Lane)
+    (text longer : List ℕ) : Type 0 where
   pub within : to ≤ length journal
-  pub given : (first : LinkState) → GivenBut (frames_to port (take from journal)) first before lane text → GivenBut (frames_to port (take to journal)) first after new longer
+  pub given : (first : LinkState) → GivenBut (frames_to port (take from journal)) first before lane text
+      → GivenBut (frames_to port (take to journal)) first after new longer
 
 -- the same, and nothing waits
-pub record Writes (port : ℕ) (journal : List Entry) (from to : ℕ) (before after : LinkState) (lane new : Lane) : Type 0 where
+pub record Writes (port : ℕ) (journal : List Entry) (from to : ℕ) (before after : LinkState)
+    (lane new : Lane) : Type 0 where
   pub within : to ≤ length journal
-  pub output : (first : LinkState) → Output (frames_to port (take from journal)) first before lane → Output (frames_to port (take to journal)) first after new
+  pub output : (first : LinkState) → Output (frames_to port (take from journal)) first before lane
+      → Output (frames_to port (take to journal)) first after new
 
 -- nothing of what is read at a port changes
 pub record KeepsInput (before after : LinkState) (lane new : Lane) : Type 0 where
-  pub input : (rules : Rules) (journal : List Entry) (port : ℕ) (first : LinkState) → Input rules journal port first before lane → Input rules journal port first after new
+  pub input : (rules : Rules) (journal : List Entry) (port : ℕ) (first : LinkState)
+      → Input rules journal port first before lane → Input rules journal port first after new
   pub turned : (turns : ℕ) → HadTurns lane turns → HadTurns new turns

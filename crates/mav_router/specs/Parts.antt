@@ -12,8 +12,10 @@ use Rattle.mav_router.specs.History.{history_of, entries_in, label_of}
 use Rattle.mav_router.specs.Runs.{Input, Output, HadTurns}
 use Rattle.mav_router.specs.Faults.{IsSwitchFault, StopsInput}
 
--- a port's seat, outside its turn: what it has seen is a history by these rules, and it added entries of its port alone
-pub record IsSeated (lock : Lock SwitchEvent) (rules : Rules) (port : ℕ) (seat : Participant SwitchEvent) : Type 0 where
+-- a port's seat, outside its turn: what it has seen is a history by these rules, and it added entries of its port
+-- alone
+pub record IsSeated (lock : Lock SwitchEvent) (rules : Rules) (port : ℕ)
+    (seat : Participant SwitchEvent) : Type 0 where
   pub enters : CanEnter lock seat
   pub own : HasItsOwn seat
   pub history : seat.seen ≡ history_of rules (entries_in seat.seen)
@@ -27,19 +29,25 @@ pub record IsReady {A : Type 0} (lock : Lock SwitchEvent) (rules : Rules) (part 
   pub few : rules.ports ≤ 8
   pub taken : part.side.taken ≤ length (entries_in part.seat.seen)
 
--- so far with the port: its entries are the frames of what was read, and it was given the frames that go out there, of the
--- entries that were looked through
-pub record PartSoFar {A : Type 0} (state : A → LinkState) (rules : Rules) (first : LinkState) (part : Part A) : Type 0 where
+-- so far with the port: its entries are the frames of what was read, and it was given the frames that go out there, of
+-- the entries that were looked through
+pub record PartSoFar {A : Type 0} (state : A → LinkState) (rules : Rules) (first : LinkState)
+    (part : Part A) : Type 0 where
   pub input : Input rules (entries_in part.seat.own) part.port first (state part.side.link) part.side.lane
-  pub output : Output (frames_to part.port (take part.side.taken (entries_in part.seat.seen))) first (state part.side.link) part.side.lane
+  pub output : Output (frames_to part.port (take part.side.taken (entries_in part.seat.seen))) first
+      (state part.side.link) part.side.lane
 
 -- the same of a port at which the switch didn't take a frame
-pub record PartStopped {A : Type 0} (state : A → LinkState) (rules : Rules) (first : LinkState) (part : Part A) : Type 0 where
-  pub input : StopsInput rules (entries_in part.seat.own) part.side.lane.turns part.side.lane.failed part.port first (state part.side.link)
-  pub output : Output (frames_to part.port (take part.side.taken (entries_in part.seat.seen))) first (state part.side.link) part.side.lane
+pub record PartStopped {A : Type 0} (state : A → LinkState) (rules : Rules) (first : LinkState)
+    (part : Part A) : Type 0 where
+  pub input : StopsInput rules (entries_in part.seat.own) part.side.lane.turns part.side.lane.failed part.port first
+      (state part.side.link)
+  pub output : Output (frames_to part.port (take part.side.taken (entries_in part.seat.seen))) first
+      (state part.side.link) part.side.lane
 
 -- what holds of a thread's part still holds after what the thread does between two reads of its port
-pub record KeepsOn {A : Type 0} (state : A → LinkState) (lock : Lock SwitchEvent) (rules : Rules) (old new : Part A) : Type 0 where
+pub record KeepsOn {A : Type 0} (state : A → LinkState) (lock : Lock SwitchEvent) (rules : Rules)
+    (old new : Part A) : Type 0 where
   pub ready : IsReady lock rules new
   pub port : new.port ≡ old.port
   pub so_far : (first : LinkState) → PartSoFar state rules first old → PartSoFar state rules first new

@@ -1,5 +1,6 @@
 -- How far a router is with a port.
-use Rattle.std.specs.Prelude.{ℕ, ◌≡◌, ◌<◌, ◌≤◌, ◌+◌, ◌*◌, ◌-◌, ◌^◌, Bool, true, false, min, List, [], ◌∷◌, ◌++◌, length, All, fold, slice_get, Option, Some, None}
+use Rattle.std.specs.Prelude.{ℕ, ◌≡◌, ◌<◌, ◌≤◌, ◌+◌, ◌*◌, ◌-◌, ◌^◌, Bool, true, false, min, List, [], ◌∷◌, ◌++◌}
+use Rattle.std.specs.Prelude.{length, All, fold, slice_get, Option, Some, None}
 use Rattle.std.specs.List.{filter_map, flat_map}
 use Rattle.std.specs.Io.KnownBytes.{append_known, prepend_known}
 use Rattle.mav_ports.specs.Counts.{Rose, next_count}
@@ -32,31 +33,37 @@ skips_of events = filter_map skip_in events
 
 -- what came in at a port is parsed by the CRC_EXTRA of the known messages; frames of MAVLink 1 are read at open ports
 abbrev pub PortProgress : Rules → ℕ → List ℕ → List Event → Held → Type 0
-PortProgress rules port bytes events held = Progress (extras_of rules.known) (has_port rules.plain port) bytes events held
+PortProgress rules port bytes events held =
+    Progress (extras_of rules.known) (has_port rules.plain port) bytes events held
 
 abbrev pub PortWhole : Rules → ℕ → List ℕ → List Event → Held → Type 0
 PortWhole rules port bytes events held = IsWhole (extras_of rules.known) (has_port rules.plain port) bytes events held
 
 -- the events found so far are a prefix of the parse of the bytes read at a port, and its entries are their frames
-pub record Reading (rules : Rules) (port : ℕ) (bytes : List ℕ) (held : Held) (skips : ℕ) (journal : List Entry) : Type 0 where
+pub record Reading (rules : Rules) (port : ℕ) (bytes : List ℕ) (held : Held) (skips : ℕ)
+    (journal : List Entry) : Type 0 where
   pub events : List Event
   pub progress : PortProgress rules port bytes events held
   pub entries : frames_from port journal ≡ frames_of events
   pub skipped : skips ≡ capped (length (skips_of events))
 
 -- and they are the whole parse: the incremental one, or after the end of the input the final one
-pub record AllRead (rules : Rules) (port : ℕ) (bytes : List ℕ) (held : Held) (skips : ℕ) (journal : List Entry) : Type 0 where
+pub record AllRead (rules : Rules) (port : ℕ) (bytes : List ℕ) (held : Held) (skips : ℕ)
+    (journal : List Entry) : Type 0 where
   pub reading : Reading rules port bytes held skips journal
   pub whole : PortWhole rules port bytes reading.events held
 
 -- the events are a prefix of the parse of the bytes: of the final one after the end of the input, and else of the
 -- incremental one
 abbrev pub BeginsParse : Bool → Rules → ℕ → List ℕ → List Event → List ℕ → Type 0
-BeginsParse true rules port bytes events rest = BeginsFinal (extras_of rules.known) (has_port rules.plain port) events rest bytes
-BeginsParse false rules port bytes events rest = BeginsIncremental (extras_of rules.known) (has_port rules.plain port) events rest bytes
+BeginsParse true rules port bytes events rest =
+    BeginsFinal (extras_of rules.known) (has_port rules.plain port) events rest bytes
+BeginsParse false rules port bytes events rest =
+    BeginsIncremental (extras_of rules.known) (has_port rules.plain port) events rest bytes
 
 -- the entries of a port and then the frames `beyond` are those of a prefix of the parse of its bytes
-pub record Begun (ended : Bool) (rules : Rules) (port : ℕ) (bytes : List ℕ) (beyond : List Packet) (journal : List Entry) : Type 0 where
+pub record Begun (ended : Bool) (rules : Rules) (port : ℕ) (bytes : List ℕ) (beyond : List Packet)
+    (journal : List Entry) : Type 0 where
   pub events : List Event
   pub rest : List ℕ
   pub begins : BeginsParse ended rules port bytes events rest
@@ -121,24 +128,30 @@ pub record Output (frames : List Packet) (first now : LinkState) (lane : Lane) :
   pub most : length written ≤ 280 * length frames
   pub count : lane.written ≡ capped (length written)
 
-pub record PortSoFar (rules : Rules) (switch : SwitchState) (port : ℕ) (first now : LinkState) (lane : Lane) : Type 0 where
+pub record PortSoFar (rules : Rules) (switch : SwitchState) (port : ℕ) (first now : LinkState)
+    (lane : Lane) : Type 0 where
   pub input : Input rules switch.journal port first now lane
   pub output : Output (given_to switch port) first now lane
 
 -- so far with each port; ports are numbered from 1
-abbrev pub RunSoFar : {A : Type 0} → (A → LinkState) → Rules → SwitchState → (ℕ → LinkState) → List A → List Lane → Type 0
+abbrev pub RunSoFar : {A : Type 0} → (A → LinkState) → Rules → SwitchState → (ℕ → LinkState) → List A → List Lane
+    → Type 0
 RunSoFar {A} state rules switch first links lanes =
-    (k : ℕ) (link : A) (lane : Lane) → slice_get links k ≡ Some link → slice_get lanes k ≡ Some lane → PortSoFar rules switch (k + 1) (first k) (state link) lane
+    (k : ℕ) (link : A) (lane : Lane) → slice_get links k ≡ Some link → slice_get lanes k ≡ Some lane
+    → PortSoFar rules switch (k + 1) (first k) (state link) lane
 
 -- and still with each port, after more was read and written
-abbrev pub RunGoesOn : {A : Type 0} → (A → LinkState) → (old new : SwitchState) → (before after : List A) → (lanes later : List Lane) → Type 0
+abbrev pub RunGoesOn : {A : Type 0} → (A → LinkState) → (old new : SwitchState) → (before after : List A)
+    → (lanes later : List Lane) → Type 0
 RunGoesOn {A} state old new before after lanes later =
-    (rules : Rules) (first : ℕ → LinkState) → RunSoFar state rules old first before lanes → RunSoFar state rules new first after later
+    (rules : Rules) (first : ℕ → LinkState) → RunSoFar state rules old first before lanes
+    → RunSoFar state rules new first after later
 
 -- all that the journal sends to the port was given for it, unless it failed
 abbrev pub IsDrained : SwitchState → List Lane → ℕ → Type 0
 IsDrained switch lanes k =
-    (lane : Lane) → slice_get lanes k ≡ Some lane → lane.failed ≡ false → given_to switch (k + 1) ≡ frames_to (k + 1) switch.journal
+    (lane : Lane) → slice_get lanes k ≡ Some lane → lane.failed ≡ false
+    → given_to switch (k + 1) ≡ frames_to (k + 1) switch.journal
 
 -- before the first read of a port
 pub record IsNew (extras : List (ℕ × ℕ)) (old : Bool) (lane : Lane) : Type 0 where

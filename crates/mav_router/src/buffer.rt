@@ -82,7 +82,8 @@ impl Buffer {
         requires { held ≤ 280 }
         ensures within { GivesWithin result (slice_range self.new held (held + 4096)) }
         ensures first { take held self.new ≡ take held self.old }
-        ensures bytes { (L.state link.old).left ≡ prepend_known (given result (slice_range self.new held (held + 4096)))
+        ensures bytes { (L.state link.old).left ≡ prepend_known
+            (given result (slice_range self.new held (held + 4096)))
             (L.state link.new).left }
         ensures faults { CountsFault result (L.state link.old).faults (L.state link.new).faults }
         ensures idles { (L.state link.new).idles ≡ idles_after result (L.state link.old).idles }

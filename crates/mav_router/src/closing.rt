@@ -1,5 +1,6 @@
 // The ports after all threads have ended.
-ghost use Rattle.std.specs.Prelude.{◌≡◌, ◌≤◌, ◌<◌, ◌⊎◌, ◌+◌, ℕ, length, map, slice_get, Some, None, IfSome, vec_len, vec_capacity};
+ghost use Rattle.std.specs.Prelude.{◌≡◌, ◌≤◌, ◌<◌, ◌⊎◌, ◌+◌, ℕ, length, map, slice_get, Some, None, IfSome, vec_len};
+ghost use Rattle.std.specs.Prelude.{vec_capacity};
 ghost use Rattle.mav_router.specs.declared.entries.SwitchFault.TheVariants.{NoMemory};
 ghost use Rattle.mav_router.specs.declared.parts.Halt.TheVariants.{Done, Fault};
 ghost use Rattle.mav_router.specs.Crews.{HasFault};

@@ -1,5 +1,6 @@
 // The frames that a port's reader found, until a turn.
-ghost use Rattle.std.specs.Prelude.{◌≡◌, ◌<◌, ◌≤◌, ◌-◌, ◌++◌, ◌∷◌, [], length, map, take, drop, All, IfOk, OnOk, OnErr, slice_get, Some, vec_len, vec_capacity};
+ghost use Rattle.std.specs.Prelude.{◌≡◌, ◌<◌, ◌≤◌, ◌-◌, ◌++◌, ◌∷◌, [], length, map, take, drop, All, IfOk, OnOk};
+ghost use Rattle.std.specs.Prelude.{OnErr, slice_get, Some, vec_len, vec_capacity};
 ghost use Rattle.mav_router.specs.Found.{IsJudged, Judged, KeepsFound, packets_of};
 ghost use Rattle.mav_stream.specs.Spans.{first_packet, held_after, next_span};
 ghost use Rattle.mav_router.specs.Finds.{FindsAll, FindsUntaken};
@@ -93,7 +94,8 @@ fn find_frame(
     requires inside { length scan.old.bytes ≤ length bytes.now }
     ensures scan { OnOk result (scan.new ≡ held_after scan.old (NextSpan.Frame size)) }
     ensures held { AreFound bytes.now items.old.items → AreFound bytes.now items.new.items }
-    ensures kept { OnOk result (KeepsFound rules.now (first_packet scan.old) (map (judged_of bytes.now) items.old.items)
+    ensures kept { OnOk result (KeepsFound rules.now (first_packet scan.old)
+        (map (judged_of bytes.now) items.old.items)
         (map (judged_of bytes.now) items.new.items)) }
     ensures same { OnErr result ((scan.new ≡ scan.old) × (items.new.items ≡ items.old.items)) }
 {

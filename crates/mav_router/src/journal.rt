@@ -1,5 +1,6 @@
 // The journal of a router.
-ghost use Rattle.std.specs.Prelude.{◌≡◌, ◌<◌, ◌≤◌, ◌+◌, ◌-◌, ◌++◌, [], List, length, replicate, slice_get, Some, All, IfErr, OnOk, vec_len, vec_capacity};
+ghost use Rattle.std.specs.Prelude.{◌≡◌, ◌<◌, ◌≤◌, ◌+◌, ◌-◌, ◌++◌, [], List, length, replicate, slice_get, Some, All};
+ghost use Rattle.std.specs.Prelude.{IfErr, OnOk, vec_len, vec_capacity};
 ghost use Rattle.mav_router.specs.declared.entries.Entry.{Entry};
 ghost use Rattle.mav_router.specs.Admitting.{IsAfter};
 ghost use Rattle.mav_router.specs.Found.{Admits, IsJudged, packets_of};
@@ -24,8 +25,8 @@ use std::mem;
 // A journal has at most so many entries.
 pub(crate) const ENTRY_LIMIT: usize = 1_000_000;
 
-/// The entries of a router, which contracts see as their list. They stand in pages: those that were sealed never change
-/// again, so that other threads read them while the last one grows.
+/// The entries of a router, which contracts see as their list. They stand in pages: those that were sealed never
+/// change again, so that other threads read them while the last one grows.
 pub struct Journal {
     sealed: Vec<SealedPage>,
     // For each sealed entry the number of its page.
@@ -249,8 +250,8 @@ impl Journal {
         }
     }
 
-    /// Shares sealed pages from that of an index on, as many as there is room for, in place of what was shared. Returns
-    /// whether no more are sealed.
+    /// Shares sealed pages from that of an index on, as many as there is room for, in place of what was shared.
+    /// Returns whether no more are sealed.
     pub(crate) fn share(&self, from: usize, shared: &mut SharedPages) -> bool
         requires { from ≤ length self.now }
         ensures { IsWindow self.now from shared.new }

@@ -1,5 +1,6 @@
 // A run of a router.
-ghost use Rattle.std.specs.Prelude.{◌≡◌, ◌≤◌, ◌<◌, ◌+◌, ℕ, List, [], length, false, true, OnOk, OnErr, IfOk, IfErr, slice_get, Some};
+ghost use Rattle.std.specs.Prelude.{◌≡◌, ◌≤◌, ◌<◌, ◌+◌, ℕ, List, [], length, false, true, OnOk, OnErr, IfOk, IfErr};
+ghost use Rattle.std.specs.Prelude.{slice_get, Some};
 ghost use Rattle.mav_router.specs.Journal.{Rules, given_to, rules_of};
 ghost use Rattle.mav_profile.specs.Messages.{extras_of};
 ghost use Rattle.mav_router.specs.Runs.{IsNew, RunGoesOn, IsDrained, AllFresh, AllTurned};

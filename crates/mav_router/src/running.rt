@@ -146,8 +146,8 @@ fn write_or_put_off<'a, R: Wait, L: Link>(
     0
 }
 
-// Whether a read of the port returns without waiting. If it doesn't, the others end the port's next rest once they have
-// something for it.
+// Whether a read of the port returns without waiting. If it doesn't, the others end the port's next rest once they
+// have something for it.
 fn is_ready<'a, L: Link>(crew: &Crew<'a, '_>, part: &mut Part<'a, L>) -> bool
     requires ready { IsReady crew.now.turn.now crew.now.rules.now part.old }
     ensures { KeepsOn L.state crew.now.turn.now crew.now.rules.now part.old part.new }

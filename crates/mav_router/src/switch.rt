@@ -1,10 +1,13 @@
 // The switch.
-ghost use Rattle.std.specs.Prelude.{◌≡◌, ◌+◌, ◌-◌, ◌<◌, ◌≤◌, ◌++◌, ◌∷◌, [], ℕ, List, length, take, slice_index, slice_get, Some, None, Err, IfOk, IfErr, OnOk, OnErr, OnSome, IfSome, IfNone, IsErrOf, true, All};
+ghost use Rattle.std.specs.Prelude.{◌≡◌, ◌+◌, ◌-◌, ◌<◌, ◌≤◌, ◌++◌, ◌∷◌, [], ℕ, List, length, take, slice_index};
+ghost use Rattle.std.specs.Prelude.{slice_get, Some, None, Err, IfOk, IfErr, OnOk, OnErr, OnSome, IfSome, IfNone};
+ghost use Rattle.std.specs.Prelude.{IsErrOf, true, All};
 ghost use Rattle.mav_sign.specs.Streams.{listed};
 ghost use Rattle.mav_sign.specs.Kept.{Represents};
 ghost use Rattle.link_table.specs.Routing.{has_port};
 ghost use Rattle.link_table.specs.Table.{Represents as StandsFor};
-ghost use Rattle.mav_router.specs.Journal.{SwitchState, entry_after, admit_after, IsJournal, frames_to, frames_at, given_to};
+ghost use Rattle.mav_router.specs.Journal.{SwitchState, entry_after, admit_after, IsJournal, frames_to, frames_at};
+ghost use Rattle.mav_router.specs.Journal.{given_to};
 ghost use Rattle.mav_router.specs.Found.{Admits, IsJudged, packets_of};
 ghost use Rattle.mav_router.specs.Faults.{IsSwitchFault};
 ghost use Rattle.mav_router.specs.declared.entries.Entry.{Entry};
@@ -141,8 +144,8 @@ impl<'a> Switch<'a> {
         Ok(last_verdict(&self.journal))
     }
 
-    /// Tries frames that were found at the port and judged by the switch's rules, in their order, until it doesn't take
-    /// one, and keeps their entries. Their pages can be shared.
+    /// Tries frames that were found at the port and judged by the switch's rules, in their order, until it doesn't
+    /// take one, and keeps their entries. Their pages can be shared.
     pub(crate) fn admit_found(
         &mut self,
         port: u8,

@@ -1,5 +1,6 @@
 // A run of a router with a thread for each port.
-ghost use Rattle.std.specs.Prelude.{◌≡◌, ◌≤◌, ◌<◌, ◌+◌, ℕ, List, [], length, replicate, false, OnOk, OnErr, slice_get, Some, vec_len, vec_capacity};
+ghost use Rattle.std.specs.Prelude.{◌≡◌, ◌≤◌, ◌<◌, ◌+◌, ℕ, List, [], length, replicate, false, OnOk, OnErr, slice_get};
+ghost use Rattle.std.specs.Prelude.{Some, vec_len, vec_capacity};
 ghost use Rattle.turnstile.specs.Participants.{opened};
 ghost use Rattle.mav_router.specs.History.{history_of};
 ghost use Rattle.mav_router.specs.Threads.{IsStocked, HasServed, HasClosed};
@@ -64,7 +65,8 @@ fn finish<L: Link>(
     requires end_room { vec_len sides.old ≤ vec_capacity ends }
     requires room { vec_len sides.old ≤ vec_capacity ports.old }
     requires turns { turns ≤ 1_000_000_000 }
-    ensures { (before : List _) → HasClosed L.state switch.entry.rules turns switch.entry.journal before sides.old.items
+    ensures { (before : List _) → HasClosed L.state switch.entry.rules turns switch.entry.journal before
+        sides.old.items
         → HasEnded result false L.state switch.entry.rules turns before ports.new.items }
 {
     match first_fault(sides.as_slice()) {

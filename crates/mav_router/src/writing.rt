@@ -103,8 +103,8 @@ fn pass_page<L: Link>(
     }
 }
 
-/// Writes what the entries of some pages from an index of the journal on send to a port, unless it failed or fails, and
-/// moves the index past them.
+/// Writes what the entries of some pages from an index of the journal on send to a port, unless it failed or fails,
+/// and moves the index past them.
 pub(crate) fn write_pages<L: Link>(
     shared: &SharedPages,
     port: u8,
@@ -142,7 +142,8 @@ pub(crate) fn write_entries<L: Link>(
     requires from { 1 ≤ port }
     requires to { port ≤ 8 }
     requires within { from.old ≤ length journal.now }
-    ensures writes { Writes port journal.now from.old from.new (L.state link.old) (L.state link.new) lane.old lane.new }
+    ensures writes { Writes port journal.now from.old from.new (L.state link.old)
+        (L.state link.new) lane.old lane.new }
     ensures all { from.new ≡ length journal.now }
     ensures keeps { KeepsInput (L.state link.old) (L.state link.new) lane.old lane.new }
 {

@@ -54,7 +54,8 @@ fn write_entries_now<L: Link>(
     requires from { 1 ≤ port }
     requires to { port ≤ 8 }
     requires within { from.old ≤ length journal.now }
-    ensures writes { Writes port journal.now from.old from.new (L.state link.old) (L.state link.new) lane.old lane.new }
+    ensures writes { Writes port journal.now from.old from.new (L.state link.old)
+        (L.state link.new) lane.old lane.new }
     ensures keeps { KeepsInput (L.state link.old) (L.state link.new) lane.old lane.new }
 {
     batch.clear();

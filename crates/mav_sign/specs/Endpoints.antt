@@ -1,5 +1,6 @@
 -- One end of signed links: what it receives and sends.
-use Rattle.std.specs.Prelude.{ℕ, ◌≡◌, ◌+◌, ◌%◌, ◌<◌, ◌≤◌, false, List, [], ◌∷◌, ◌++◌, fold, drop, All, Option, Some, None, Ok, Err, IsSome, IfSome, IfOk, OnOk, OnErr}
+use Rattle.std.specs.Prelude.{ℕ, ◌≡◌, ◌+◌, ◌%◌, ◌<◌, ◌≤◌, false, List, [], ◌∷◌, ◌++◌, fold, drop, All, Option, Some}
+use Rattle.std.specs.Prelude.{None, Ok, Err, IsSome, IfSome, IfOk, OnOk, OnErr}
 use Rattle.std.specs.declared.result.Result.{Result}
 use Rattle.std.specs.List.{filter_map}
 use Rattle.x25_check.specs.Extras.{extra_of}
@@ -45,7 +46,8 @@ new_endpoint key me extras stamps = record { key = key; me = me; extras = extras
 -- has no such message
 abbrev pub AdmittedIs : Stream → Packet → Heard → Type 0
 AdmittedIs stream packet (HeardMessage from message) =
-    (from ≡ stream) × (profile_definition packet.id ≡ Some (definition_of message)) × PayloadRepresents (definition_of message) packet.payload (values_of message)
+    (from ≡ stream) × (profile_definition packet.id ≡ Some (definition_of message))
+    × PayloadRepresents (definition_of message) packet.payload (values_of message)
 AdmittedIs stream packet (Other from id) = (from ≡ stream) × (id ≡ packet.id) × (profile_definition packet.id ≡ None)
 AdmittedIs stream packet (Dropped answer) = ⊥
 
@@ -67,14 +69,16 @@ after_frame key history packet = history ++ tried packet (answer_to key history 
 pub record Admits (old new : EndpointState) (packet : Packet) (answer : Admit) : Type 0 where
   pub kept : answer ≡ kept_answer_to old.key old.stamps packet
   pub answer_is : (history : List Entry) → Represents old.stamps history → answer ≡ answer_to old.key history packet
-  pub history : (history : List Entry) → Represents old.stamps history → Represents new.stamps (after_frame old.key history packet)
+  pub history : (history : List Entry) → Represents old.stamps history
+      → Represents new.stamps (after_frame old.key history packet)
   pub same : new ≡ record old { stamps = new.stamps }
 
 -- the same, with what is reported of it
 pub record Takes (old new : EndpointState) (packet : Packet) (reported : Heard) : Type 0 where
   pub kept : AnswerIs (kept_answer_to old.key old.stamps packet) packet packet.block reported
   pub heard : (history : List Entry) → Represents old.stamps history → HeardIs old.key history packet reported
-  pub history : (history : List Entry) → Represents old.stamps history → Represents new.stamps (after_frame old.key history packet)
+  pub history : (history : List Entry) → Represents old.stamps history
+      → Represents new.stamps (after_frame old.key history packet)
   pub same : new ≡ record old { stamps = new.stamps }
 
 -- what is reported of frames, one after another
@@ -97,28 +101,32 @@ frame_in (SkippedEvent byte why) = None
 abbrev pub frames_of : List Event → List Packet
 frames_of events = filter_map frame_in events
 
--- frames were tried after a history: what is reported of them is appended, and what is kept represents the history with
--- them
-pub record Told (key : List ℕ) (history : List Entry) (packets : List Packet) (before after : List Heard) (stamps : Kept) : Type 0 where
+-- frames were tried after a history: what is reported of them is appended, and what is kept represents the history
+-- with them
+pub record Told (key : List ℕ) (history : List Entry) (packets : List Packet) (before after : List Heard)
+    (stamps : Kept) : Type 0 where
   pub heard : List Heard
   pub each : HeardAll key history packets heard
   pub appended : after ≡ before ++ heard
   pub represents : Represents stamps (after_frames key history packets)
 
 -- what is at the start of some bytes was received
-pub record FrontHeard (extras : List (ℕ × ℕ)) (key : List ℕ) (history : List Entry) (bytes : List ℕ) (size : ℕ) (before after : List Heard) (stamps : Kept) : Type 0 where
+pub record FrontHeard (extras : List (ℕ × ℕ)) (key : List ℕ) (history : List Entry) (bytes : List ℕ) (size : ℕ)
+    (before after : List Heard) (stamps : Kept) : Type 0 where
   pub event : Event
   pub stands : EventAt extras false event bytes (drop size bytes)
   pub told : Told key history (frames_of (event ∷ [])) before after stamps
 
 -- the bytes from an index on are left
-pub record HeardTo (extras : List (ℕ × ℕ)) (key : List ℕ) (history : List Entry) (bytes : List ℕ) (place : ℕ) (before after : List Heard) (stamps : Kept) : Type 0 where
+pub record HeardTo (extras : List (ℕ × ℕ)) (key : List ℕ) (history : List Entry) (bytes : List ℕ) (place : ℕ)
+    (before after : List Heard) (stamps : Kept) : Type 0 where
   pub events : List Event
   pub begun : BeginsFinal extras false events (drop place bytes) bytes
   pub told : Told key history (frames_of events) before after stamps
 
 -- a whole datagram was received: the frames of its final parse, in order
-pub record Received (extras : List (ℕ × ℕ)) (key : List ℕ) (history : List Entry) (datagram : List ℕ) (before after : List Heard) (stamps : Kept) : Type 0 where
+pub record Received (extras : List (ℕ × ℕ)) (key : List ℕ) (history : List Entry) (datagram : List ℕ)
+    (before after : List Heard) (stamps : Kept) : Type 0 where
   pub events : List Event
   pub parse : Final extras false events datagram
   pub told : Told key history (frames_of events) before after stamps
@@ -142,7 +150,8 @@ pub record FramesOf (extras : List (ℕ × ℕ)) (datagram : List ℕ) (before a
   pub appended : after ≡ before ++ frames_of events
 
 -- a frame that carries a message from a stream, at a timestamp
-pub record FrameOf (me : Stream) (extras : List (ℕ × ℕ)) (seq stamp : ℕ) (message : Message) (packet : Packet) : Type 0 where
+pub record FrameOf (me : Stream) (extras : List (ℕ × ℕ)) (seq stamp : ℕ) (message : Message)
+    (packet : Packet) : Type 0 where
   pub version : packet.old ≡ false
   pub compat : packet.compat ≡ 0
   pub seq_is : packet.seq ≡ seq
@@ -154,7 +163,8 @@ pub record FrameOf (me : Stream) (extras : List (ℕ × ℕ)) (seq stamp : ℕ) 
   pub signed : IsSome packet.block
 
 -- the same, signed
-pub record SentFrame (key : List ℕ) (me : Stream) (extras : List (ℕ × ℕ)) (seq stamp : ℕ) (message : Message) (packet : Packet) : Type 0 where
+pub record SentFrame (key : List ℕ) (me : Stream) (extras : List (ℕ × ℕ)) (seq stamp : ℕ) (message : Message)
+    (packet : Packet) : Type 0 where
   pub carries : FrameOf me extras seq stamp message packet
   pub block : IfSome packet.block (λ block. (block.link ≡ me.link) × (block.stamp ≡ stamp))
   pub verifies : Verifies key packet packet.block
@@ -164,14 +174,16 @@ abbrev pub with_frame : {A Fault : Type 0} → Packet → Result A Fault → Res
 with_frame packet (Ok done) = Ok packet
 with_frame packet (Err fault) = Err fault
 
--- an endpoint makes the frame that carries a message, by what its verifier keeps and by each history that this represents;
--- or no timestamp is left, and nothing has changed
-pub record Sends (old new : EndpointState) (clock : ℕ) (message : Message) (result : Result Packet StampsSpent) : Type 0 where
+-- an endpoint makes the frame that carries a message, by what its verifier keeps and by each history that this
+-- represents; or no timestamp is left, and nothing has changed
+pub record Sends (old new : EndpointState) (clock : ℕ) (message : Message)
+    (result : Result Packet StampsSpent) : Type 0 where
   pub frame : IfOk result (SentFrame old.key old.me old.extras old.seq (kept_next old.stamps clock) message)
   pub left : OnOk result (kept_next old.stamps clock ≤ greatest_stamp)
   pub spent : OnErr result (greatest_stamp < kept_next old.stamps clock)
   pub unchanged : OnErr result (new ≡ old)
-  pub stamp : (history : List Entry) → Represents old.stamps history → kept_next old.stamps clock ≡ next_in history clock
+  pub stamp : (history : List Entry) → Represents old.stamps history
+      → kept_next old.stamps clock ≡ next_in history clock
   pub history : OnOk result ((history : List Entry) → Represents old.stamps history
       → Represents new.stamps (history ++ sent (next_in history clock) ∷ []))
   pub same : OnOk result (new ≡ record old { stamps = new.stamps; seq = (old.seq + 1) % 256 })

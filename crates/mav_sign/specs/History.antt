@@ -1,6 +1,7 @@
 -- What a verifier has tried and sent, and what follows from it (MAVLink guide, Message Signing: Timestamp Handling,
 -- Accepting Signed Packets).
-use Rattle.std.specs.Prelude.{ℕ, ◌+◌, ◌==◌, ◌&&◌, nat_lt, max, Bool, true, false, if◌then◌else◌, List, [], ◌∷◌, ◌++◌, length, map, filter, fold, Option, Some, None, option_map, Result, Ok, Err}
+use Rattle.std.specs.Prelude.{ℕ, ◌+◌, ◌==◌, ◌&&◌, nat_lt, max, Bool, true, false, if◌then◌else◌, List, [], ◌∷◌, ◌++◌}
+use Rattle.std.specs.Prelude.{length, map, filter, fold, Option, Some, None, option_map, Result, Ok, Err}
 use Rattle.std.specs.List.{filter_map, list_any}
 use Rattle.std.specs.Str.{bytes_eq}
 use Rattle.mav_names.specs.declared.names.Stream.{Stream}
@@ -8,7 +9,8 @@ use Rattle.mav_frame.specs.Packet.{Packet, SignatureBlock}
 use Rattle.mav_sign.specs.Signing.{signature_of}
 use Rattle.mav_sign.specs.declared.admission.StampsSpent.{StampsSpent}
 use Rattle.mav_sign.specs.declared.admission.Admit.{Admit}
-use Rattle.mav_sign.specs.declared.admission.Admit.TheVariants.{Admitted, Unsigned, BadSignature, BelowFloor, NotLater, TooOld, TooManyStreams}
+use Rattle.mav_sign.specs.declared.admission.Admit.TheVariants.{Admitted, Unsigned, BadSignature, BelowFloor, NotLater}
+use Rattle.mav_sign.specs.declared.admission.Admit.TheVariants.{TooOld, TooManyStreams}
 
 -- a frame that was tried, with its verdict; a timestamp that was given to a frame sent; or the persisted timestamp low
 -- bound that the verifier was started with. A history is the list of its entries, the earliest first, and begins with
@@ -117,19 +119,22 @@ unless_below (Some low) stamp answer = if nat_lt low stamp then answer else Belo
 
 -- the verdict on a right signature, by the last timestamp of its stream, the number of streams and the local timestamp
 abbrev pub answer_after : Option ℕ → ℕ → ℕ → ℕ → Admit
-answer_after (Some last) streams local stamp = if nat_lt last stamp then unless_old local stamp Admitted else NotLater last
+answer_after (Some last) streams local stamp = if nat_lt last stamp then unless_old local stamp Admitted
+    else NotLater last
 answer_after None streams local stamp =
     unless_old local stamp (if nat_lt streams stream_limit then Admitted else TooManyStreams)
 
 abbrev pub stamp_answer : Stream → ℕ → List Entry → Admit
 stamp_answer stream stamp history =
-    unless_below (low_of history) stamp (answer_after (last_of stream history) (length (streams_of history)) (local_of history) stamp)
+    unless_below (low_of history) stamp (answer_after (last_of stream history) (length (streams_of history))
+    (local_of history) stamp)
 
 -- the verdict by the frame's signature block, in which a right signature is judged by its stream and timestamp
 abbrev pub block_answer : List ℕ → (Stream → ℕ → Admit) → Packet → Option SignatureBlock → Admit
 block_answer key answer packet None = Unsigned
 block_answer key answer packet (Some block) =
-    if bytes_eq block.sig (signature_of key packet block.link block.stamp) then answer (stream_of packet block) block.stamp
+    if bytes_eq block.sig (signature_of key packet block.link block.stamp)
+    then answer (stream_of packet block) block.stamp
     else BadSignature
 
 -- the verdict on a frame after a history: the first that applies

@@ -1,15 +1,18 @@
 -- What a verifier keeps of its history.
-use Rattle.std.specs.Prelude.{ℕ, ◌≡◌, ◌+◌, ◌-◌, ◌*◌, ◌<◌, ◌==◌, nat_eq, nat_lt, not, max, is_some, if◌then◌else◌, Bool, false, List, [], ◌∷◌, ◌++◌, length, Option, Some, None}
+use Rattle.std.specs.Prelude.{ℕ, ◌≡◌, ◌+◌, ◌-◌, ◌*◌, ◌<◌, ◌==◌, nat_eq, nat_lt, not, max, is_some, if◌then◌else◌, Bool}
+use Rattle.std.specs.Prelude.{false, List, [], ◌∷◌, ◌++◌, length, Option, Some, None}
 use Rattle.std.specs.List.{count_by}
 use Rattle.std.specs.Map.{lookup}
 use Rattle.mav_names.specs.declared.names.Stream.{Stream}
 use Rattle.mav_frame.specs.Packet.{Packet, SignatureBlock}
 use Rattle.mav_sign.specs.declared.admission.Admit.{Admit}
 use Rattle.mav_sign.specs.declared.admission.Admit.TheVariants.{Admitted}
-use Rattle.mav_sign.specs.History.{Entry, tried, stream_of, one_minute, stream_limit, answer_to, is_admitted, block_answer, answer_after, unless_below, low_of, last_of, streams_of, accepted_in, previous_in, sent_in, greatest}
+use Rattle.mav_sign.specs.History.{Entry, tried, stream_of, one_minute, stream_limit, answer_to, is_admitted}
+use Rattle.mav_sign.specs.History.{block_answer, answer_after, unless_below, low_of, last_of, streams_of, accepted_in}
+use Rattle.mav_sign.specs.History.{previous_in, sent_in, greatest}
 
--- the persisted timestamp low bound that it was started with, the pairs of a stream's number and its last admitted timestamp, the greatest
--- timestamp admitted, and the previous one sent
+-- the persisted timestamp low bound that it was started with, the pairs of a stream's number and its last admitted
+-- timestamp, the greatest timestamp admitted, and the previous one sent
 pub record Kept : Type 0 where
   pub low : Option ℕ
   pub last : List (ℕ × ℕ)
@@ -46,7 +49,8 @@ local_kept kept = max kept.accepted kept.previous
 -- the verdict by what is kept
 abbrev pub kept_answer : Kept → Stream → ℕ → Admit
 kept_answer kept stream stamp =
-    unless_below kept.low stamp (answer_after (stamp_at (stream_number stream) kept.last) (length kept.last) (local_kept kept) stamp)
+    unless_below kept.low stamp (answer_after (stamp_at (stream_number stream) kept.last) (length kept.last)
+    (local_kept kept) stamp)
 
 -- the verdict on a frame by what is kept
 abbrev pub kept_answer_to : List ℕ → Kept → Packet → Admit
@@ -59,8 +63,10 @@ pub record IsVerdict (key : List ℕ) (kept : Kept) (packet : Packet) (answer : 
 
 -- an admitted timestamp is the last of its stream
 pub record Admits (stream : Stream) (stamp : ℕ) (old new : Kept) : Type 0 where
-  pub last : (number : ℕ) → stamp_at number new.last ≡ (if stream_number stream == number then Some stamp else stamp_at number old.last)
-  pub streams : length new.last ≡ (if is_some (stamp_at (stream_number stream) old.last) then length old.last else length old.last + 1)
+  pub last : (number : ℕ) → stamp_at number new.last
+      ≡ (if stream_number stream == number then Some stamp else stamp_at number old.last)
+  pub streams : length new.last ≡ (if is_some (stamp_at (stream_number stream) old.last) then length old.last
+      else length old.last + 1)
   pub accepted : new.accepted ≡ max old.accepted stamp
   pub previous : new.previous ≡ old.previous
   pub low : new.low ≡ old.low
@@ -105,8 +111,11 @@ pub record Forgets (accepted : ℕ) (old new : List (ℕ × ℕ)) : Type 0 where
 
 -- they are once as many streams are kept as may be
 pub record HasRoom (old new : Kept) : Type 0 where
-  pub last : (number : ℕ) → stamp_at number new.last ≡ (if nat_lt (length old.last) stream_limit then stamp_at number old.last else present old.accepted (stamp_at number old.last))
-  pub streams : length new.last ≡ (if nat_lt (length old.last) stream_limit then length old.last else count_present old.accepted old.last)
+  pub last : (number : ℕ) → stamp_at number new.last
+      ≡ (if nat_lt (length old.last) stream_limit then stamp_at number old.last
+      else present old.accepted (stamp_at number old.last))
+  pub streams : length new.last ≡ (if nat_lt (length old.last) stream_limit then length old.last
+      else count_present old.accepted old.last)
   pub accepted : new.accepted ≡ old.accepted
   pub previous : new.previous ≡ old.previous
   pub low : new.low ≡ old.low

@@ -16,7 +16,8 @@ listed None = []
 listed (Some a) = a ∷ []
 
 -- the parse advanced to the end of a frame, or over all of the bytes
-pub record ReadTo (extras : List (ℕ × ℕ)) (taken : List ℕ) (given : List Event) (frame : Option Packet) (held : Held) : Type 0 where
+pub record ReadTo (extras : List (ℕ × ℕ)) (taken : List ℕ) (given : List Event) (frame : Option Packet)
+    (held : Held) : Type 0 where
   pub events : List Event
   pub frames : frames_of events ≡ listed frame
   pub progress : Progress extras false taken (given ++ events) held
@@ -33,7 +34,8 @@ abbrev pub reader_of : EndpointState → Held
 reader_of endpoint = record { extras = endpoint.extras; reads_old = false; bytes = endpoint.held; ended = false }
 
 -- the incremental parse advanced by some events, whose frame, if there is one, was received; without one it is whole
-pub record PartHeard (extras : List (ℕ × ℕ)) (key : List ℕ) (history : List Entry) (taken : List ℕ) (given : List Event) (heard : Option Heard) (held : Held) (stamps : Kept) : Type 0 where
+pub record PartHeard (extras : List (ℕ × ℕ)) (key : List ℕ) (history : List Entry) (taken : List ℕ)
+    (given : List Event) (heard : Option Heard) (held : Held) (stamps : Kept) : Type 0 where
   pub events : List Event
   pub progress : Progress extras false taken (given ++ events) held
   pub told : Told key history (frames_of events) [] (listed heard) stamps

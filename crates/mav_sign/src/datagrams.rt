@@ -6,7 +6,8 @@ use crate::Key;
 use mav_frame::RawFrame;
 use std::marker::Model;
 
-/// The bytes of a datagram; and, if they are a frame that is known to verify, under which key. Contracts see the bytes.
+/// The bytes of a datagram; and, if they are a frame that is known to verify, under which key. Contracts see the
+/// bytes.
 #[derive(Drop)]
 pub struct Datagram<'a> {
     bytes: &'a [u8],

@@ -1,5 +1,6 @@
 // One end of signed links.
-ghost use Rattle.std.specs.Prelude.{◌≡◌, ℕ, ◌+◌, ◌*◌, ◌^◌, ◌<◌, ◌≤◌, None, false, take, length, vec_len, vec_capacity, ◌++◌, ◌∷◌, [], List, IfOk, IfSome, OnOk, OnErr};
+ghost use Rattle.std.specs.Prelude.{◌≡◌, ℕ, ◌+◌, ◌*◌, ◌^◌, ◌<◌, ◌≤◌, None, false, take, length, vec_len, vec_capacity};
+ghost use Rattle.std.specs.Prelude.{◌++◌, ◌∷◌, [], List, IfOk, IfSome, OnOk, OnErr};
 ghost use Rattle.x25_check.specs.Extras.{extra_of};
 ghost use Rattle.mav_messages.specs.Messages.{definition_of};
 ghost use Rattle.mav_sign.specs.History.{Entry, sent, started, stamp_given, next_in};
@@ -8,7 +9,8 @@ ghost use Rattle.mav_sign.specs.Kept.{Represents, IsVerdict, kept_answer_to, kep
 ghost use Rattle.mav_frame.specs.declared.events.Event.{Event};
 ghost use Rattle.mav_stream.specs.Progress.{Progress};
 ghost use Rattle.mav_sign.specs.Streams.{reader_of, ReadTo, PartHeard};
-ghost use Rattle.mav_sign.specs.Endpoints.{HasProfile, AdmittedIs, Admits, new_endpoint, Takes, Told, FrontHeard, Received, FramesOf, FrameOf, Sends, with_frame};
+ghost use Rattle.mav_sign.specs.Endpoints.{HasProfile, AdmittedIs, Admits, new_endpoint, Takes, Told, FrontHeard};
+ghost use Rattle.mav_sign.specs.Endpoints.{Received, FramesOf, FrameOf, Sends, with_frame};
 
 use crate::reading::{LEAST_FRAME_BYTES, append_frames, read_frame};
 use crate::stamps::stream_on;
@@ -43,9 +45,17 @@ impl Model for Endpoint {
 
     ghost Value = { EndpointState };
 
-    ghost view = { λ e. record { key = e.key; me = e.me; extras = e.extras; stamps = e.stamps; seq = e.seq; held = e.reader.bytes } };
+    ghost view = { λ e. record {
+      key = e.key;
+      me = e.me;
+      extras = e.extras;
+      stamps = e.stamps;
+      seq = e.seq;
+      held = e.reader.bytes;
+    } };
 
-    ghost invariant = { λ e. HasProfile e.extras × (e.reader.extras ≡ e.extras) × (e.reader.ended ≡ false) × (e.reader.reads_old ≡ false) };
+    ghost invariant = { λ e. HasProfile e.extras × (e.reader.extras ≡ e.extras) × (e.reader.ended ≡ false)
+        × (e.reader.reads_old ≡ false) };
 }
 
 // What an admitted frame carries.
@@ -175,8 +185,8 @@ impl Endpoint {
         self.stamps.admit_judged(&self.key, frame, verifies)
     }
 
-    /// What is left to do of `admit_judged` once `test_judged` has returned this verdict: keeps the frame's timestamp if it is
-    /// admitted.
+    /// What is left to do of `admit_judged` once `test_judged` has returned this verdict: keeps the frame's timestamp
+    /// if it is admitted.
     pub fn keep_verdict(&mut self, frame: &RawFrame<'_>, answer: Admit)
         requires { answer ≡ kept_answer_to self.old.key self.old.stamps frame.now }
         ensures { Admits self.old self.new frame.now answer }
@@ -219,8 +229,10 @@ impl Endpoint {
         requires room { 12 ≤ length bytes.now → vec_len out.old < vec_capacity out.old }
         ensures size { (0 < result) × (result ≤ length bytes.now) }
         ensures heard { (history : List Entry) → Represents self.old.stamps history
-            → FrontHeard self.old.extras self.old.key history bytes.now result out.old.items out.new.items self.new.stamps }
-        ensures room { (vec_capacity out.old ≤ vec_capacity out.new) × (vec_len out.new * 12 ≤ vec_len out.old * 12 + result) }
+            → FrontHeard self.old.extras self.old.key history bytes.now result out.old.items out.new.items
+            self.new.stamps }
+        ensures room { (vec_capacity out.old ≤ vec_capacity out.new)
+            × (vec_len out.new * 12 ≤ vec_len out.old * 12 + result) }
         ensures same { self.new ≡ record self.old { stamps = self.new.stamps } }
     {
         match look(&self.extras, false, bytes) {
@@ -259,12 +271,13 @@ impl Endpoint {
         append_frames(&self.extras, datagram, out)
     }
 
-    /// Takes bytes of a stream that comes in pieces, and returns how many it took and the next frame of the stream, which
-    /// isn't tried. Without a frame it took the whole piece, and every frame of the bytes taken was returned. Doesn't
-    /// allocate.
+    /// Takes bytes of a stream that comes in pieces, and returns how many it took and the next frame of the stream,
+    /// which isn't tried. Without a frame it took the whole piece, and every frame of the bytes taken was returned.
+    /// Doesn't allocate.
     pub fn read(&mut self, piece: &[u8]) -> (usize, Option<Frame>)
         ensures count { result.0 ≤ length piece.now }
-        ensures read { (taken : List ℕ) (given : List Event) → Progress self.old.extras false taken given (reader_of self.old)
+        ensures read { (taken : List ℕ) (given : List Event)
+            → Progress self.old.extras false taken given (reader_of self.old)
             → ReadTo self.old.extras (taken ++ take result.0 piece.now) given result.1 (reader_of self.new) }
         ensures none { result.1 ≡ None → result.0 ≡ length piece.now }
         ensures same { self.new ≡ record self.old { held = self.new.held } }
@@ -279,7 +292,8 @@ impl Endpoint {
         ensures count { result.0 ≤ length piece.now }
         ensures heard { (taken : List ℕ) (given : List Event) (history : List Entry)
             → Progress self.old.extras false taken given (reader_of self.old) → Represents self.old.stamps history
-            → PartHeard self.old.extras self.old.key history (taken ++ take result.0 piece.now) given result.1 (reader_of self.new) self.new.stamps }
+            → PartHeard self.old.extras self.old.key history (taken ++ take result.0 piece.now) given result.1
+            (reader_of self.new) self.new.stamps }
         ensures none { result.1 ≡ None → result.0 ≡ length piece.now }
         ensures same { self.new ≡ record self.old { stamps = self.new.stamps; held = self.new.held } }
     {
@@ -325,8 +339,8 @@ impl Endpoint {
     }
 
     /// Makes the frame that carries a message: with the next sequence number and timestamp, signed. The clock counts
-    /// units of 10 microseconds since 1 January 2015, and the timestamp is the one that `ahead` returns at it. If none is
-    /// left nothing has changed.
+    /// units of 10 microseconds since 1 January 2015, and the timestamp is the one that `ahead` returns at it. If none
+    /// is left nothing has changed.
     pub fn send(&mut self, message: &Message, clock: u64) -> Result<Frame, StampsSpent>
         ensures { Sends self.old self.new clock message.now result }
     {

@@ -1,8 +1,8 @@
 //! Signed links of MAVLink 2: keys, signatures, timestamps, the admission of frames, and a node's end of its links.
 //!
 //! A [`Stamps`] represents a history: the persisted timestamp low bound that it was started with, if there is one, the
-//! frames tried, with their verdicts, and the timestamps given. Each of its results follows from that history alone, and
-//! each call leaves one that represents the history with the call added.
+//! frames tried, with their verdicts, and the timestamps given. Each of its results follows from that history alone,
+//! and each call leaves one that represents the history with the call added.
 //! An [`Endpoint`] receives the frames of datagrams or of a stream, and sends messages in signed frames. A frame
 //! that isn't admitted changes nothing. Only the constructors, `receive` and `frames` allocate.
 #![tactic(auto)]

@@ -1,5 +1,6 @@
 // The frames of datagrams and of a stream.
-ghost use Rattle.std.specs.Prelude.{◌≡◌, ◌≤◌, ◌<◌, ◌+◌, ◌*◌, ◌++◌, ℕ, List, length, take, None, false, vec_len, vec_capacity, OnOk, OnErr};
+ghost use Rattle.std.specs.Prelude.{◌≡◌, ◌≤◌, ◌<◌, ◌+◌, ◌*◌, ◌++◌, ℕ, List, length, take, None, false, vec_len};
+ghost use Rattle.std.specs.Prelude.{vec_capacity, OnOk, OnErr};
 ghost use Rattle.mav_frame.specs.declared.events.Event.{Event};
 ghost use Rattle.mav_stream.specs.Progress.{Progress};
 ghost use Rattle.mav_sign.specs.Endpoints.{FrontFrames, FramesOf};
@@ -37,7 +38,8 @@ fn append_front(extras: &Extras, bytes: &[u8], out: &mut Vec<Frame>) -> usize
     requires room { 12 ≤ length bytes.now → vec_len out.old < vec_capacity out.old }
     ensures size { (0 < result) × (result ≤ length bytes.now) }
     ensures front { FrontFrames extras.now bytes.now result out.old.items out.new.items }
-    ensures room { (vec_capacity out.old ≤ vec_capacity out.new) × (vec_len out.new * 12 ≤ vec_len out.old * 12 + result) }
+    ensures room { (vec_capacity out.old ≤ vec_capacity out.new)
+        × (vec_len out.new * 12 ≤ vec_len out.old * 12 + result) }
 {
     let (event, size) = event_at(extras, false, bytes);
     match event {
@@ -51,10 +53,12 @@ fn append_front(extras: &Extras, bytes: &[u8], out: &mut Vec<Frame>) -> usize
 pub(crate) fn read_frame(reader: &mut Reader, piece: &[u8]) -> (usize, Option<Frame>)
     requires { (reader.old.ended ≡ false) × (reader.old.reads_old ≡ false) }
     ensures count { result.0 ≤ length piece.now }
-    ensures read { (extras : List (ℕ × ℕ)) (taken : List ℕ) (given : List Event) → Progress extras false taken given reader.old
+    ensures read { (extras : List (ℕ × ℕ)) (taken : List ℕ) (given : List Event)
+        → Progress extras false taken given reader.old
         → ReadTo extras (taken ++ take result.0 piece.now) given result.1 reader.new }
     ensures none { result.1 ≡ None → result.0 ≡ length piece.now }
-    ensures same { (reader.new.extras ≡ reader.old.extras) × (reader.new.ended ≡ false) × (reader.new.reads_old ≡ false) }
+    ensures same { (reader.new.extras ≡ reader.old.extras) × (reader.new.ended ≡ false)
+        × (reader.new.reads_old ≡ false) }
 {
     let mut taken = 0;
     'reading: loop {

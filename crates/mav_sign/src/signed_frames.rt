@@ -8,8 +8,8 @@ use mav_frame::{Block, FrameBytes, RawFrame};
 use mav_names::Name;
 use std::marker::Model;
 
-/// A frame as the bytes that encode it, and the key under which it was signed, if it was: whoever has that key knows without
-/// a digest that the frame verifies. Contracts see its packet.
+/// A frame as the bytes that encode it, and the key under which it was signed, if it was: whoever has that key knows
+/// without a digest that the frame verifies. Contracts see its packet.
 #[derive(Drop)]
 pub struct SignedFrame {
     frame: FrameBytes,
@@ -61,7 +61,13 @@ impl SignedFrame {
     /// Signs it, by the link id and the timestamp of its signature block.
     pub(crate) fn sign(&mut self, key: &Key)
         requires { IsSome self.old.block }
-        ensures { IfSome self.old.block (λ block. self.new ≡ record self.old { block = Some record block { sig = signature_of key.now self.old block.link block.stamp } }) }
+        ensures { IfSome self.old.block (λ block. self.new
+            ≡ record self.old {
+              block = Some record block {
+                sig = signature_of key.now self.old block.link
+                    block.stamp;
+              };
+            }) }
     {
         sign_bytes(key, &mut self.frame);
         self.key = Some(*key);

@@ -31,7 +31,13 @@ fn signature(key: &Key, frame: &RawFrame<'_>) -> [u8; 6]
 /// Signs a frame that has its checksum and a signature block, whose six bytes it sets.
 pub fn sign_bytes(key: &Key, frame: &mut FrameBytes)
     requires { IsSome frame.old.block }
-    ensures { IfSome frame.old.block (λ block. frame.new ≡ record frame.old { block = Some record block { sig = signature_of key.now frame.old block.link block.stamp } }) }
+    ensures { IfSome frame.old.block (λ block. frame.new
+        ≡ record frame.old {
+          block = Some record block {
+            sig = signature_of key.now frame.old block.link
+                block.stamp;
+          };
+        }) }
 {
     let sig = signature(key, &frame.raw());
     frame.set_signature(&sig);

@@ -3,7 +3,8 @@ ghost use Rattle.std.specs.Prelude.{◌≡◌, ◌+◌, ◌<◌, ◌^◌, ◌++�
 ghost use Rattle.mav_sign.specs.declared.admission.Admit.TheVariants.{Admitted};
 ghost use Rattle.mav_sign.specs.Signing.{verified};
 ghost use Rattle.mav_sign.specs.History.{Entry, sent, started, last_of, local_of, next_in, stamp_given};
-ghost use Rattle.mav_sign.specs.Kept.{IsStream, Represents, KeptAfter, IsVerdict, HasTried, stream_number, stamp_at, local_kept, kept_answer, kept_answer_to, kept_next, HasRoom};
+ghost use Rattle.mav_sign.specs.Kept.{IsStream, Represents, KeptAfter, IsVerdict, HasTried, stream_number, stamp_at};
+ghost use Rattle.mav_sign.specs.Kept.{local_kept, kept_answer, kept_answer_to, kept_next, HasRoom};
 
 use crate::signing::verifies_raw;
 use crate::table::{ONE_MINUTE, STREAM_LIMIT, Table};
@@ -16,8 +17,8 @@ use std::marker::Model;
 // The greatest timestamp of 6 bytes.
 const GREATEST_STAMP: u64 = 0xFFFF_FFFF_FFFF;
 
-/// The timestamps of a verifier. Contracts see what it keeps; it represents the history of the frames that it tried and
-/// of the timestamps that it gave (MAVLink guide, Message Signing: Timestamp Handling).
+/// The timestamps of a verifier. Contracts see what it keeps; it represents the history of the frames that it tried
+/// and of the timestamps that it gave (MAVLink guide, Message Signing: Timestamp Handling).
 pub struct Stamps {
     low: Option<u64>,
     last: Table,
@@ -71,8 +72,8 @@ impl Stamps {
         })
     }
 
-    /// Starts with a persisted timestamp low bound, the floor: a frame is admitted only if its timestamp is greater, and
-    /// it counts as the previous timestamp sent. Allocates the memory for all that is kept later.
+    /// Starts with a persisted timestamp low bound, the floor: a frame is admitted only if its timestamp is greater,
+    /// and it counts as the previous timestamp sent. Allocates the memory for all that is kept later.
     pub fn start(alloc: Global, floor: u64) -> Result<Stamps, NoMemory>
         requires { floor < 2 ^ 48 }
         ensures { IfOk result (λ stamps. Represents stamps (started floor ∷ [])) }
@@ -187,8 +188,8 @@ impl Stamps {
         answer
     }
 
-    /// Forgets the streams whose last timestamp is more than a minute before the greatest one admitted, if there is no room
-    /// for another stream: their old frames would be too old all the same. Without memory nothing changes.
+    /// Forgets the streams whose last timestamp is more than a minute before the greatest one admitted, if there is no
+    /// room for another stream: their old frames would be too old all the same. Without memory nothing changes.
     pub fn make_room(&mut self) -> Result<(), NoMemory>
         ensures room { OnOk result (HasRoom self.old self.new) }
         ensures unchanged { OnErr result (self.new ≡ self.old) }
@@ -200,8 +201,8 @@ impl Stamps {
         Ok(())
     }
 
-    /// What is left to do of `admit_judged` once `test_judged` has returned this verdict: keeps the frame's timestamp if it is
-    /// admitted.
+    /// What is left to do of `admit_judged` once `test_judged` has returned this verdict: keeps the frame's timestamp
+    /// if it is admitted.
     pub fn keep_verdict(&mut self, key: &Key, frame: &RawFrame<'_>, answer: Admit)
         requires { answer ≡ kept_answer_to key.now self.old frame.now }
         ensures { HasTried key.now self.old self.new frame.now answer }
@@ -220,7 +221,8 @@ impl Stamps {
         ensures kept { result ≡ stamp_given (kept_next self.now clock) }
         ensures later { IfOk result (λ stamp. self.now.previous < stamp) }
         ensures small { IfOk result (λ stamp. stamp < 2 ^ 48) }
-        ensures answer { (history : List Entry) → Represents self.now history → result ≡ stamp_given (next_in history clock) }
+        ensures answer { (history : List Entry) → Represents self.now history
+            → result ≡ stamp_given (next_in history clock) }
     {
         let next = (self.previous + 1).max(clock.max(self.accepted));
         if next > GREATEST_STAMP {
@@ -236,7 +238,8 @@ impl Stamps {
         ensures rises { IfOk result (λ stamp. self.old.previous < stamp) }
         ensures small { IfOk result (λ stamp. stamp < 2 ^ 48) }
         ensures unchanged { OnErr result (self.new ≡ self.old) }
-        ensures answer { (history : List Entry) → Represents self.old history → result ≡ stamp_given (next_in history clock) }
+        ensures answer { (history : List Entry) → Represents self.old history
+            → result ≡ stamp_given (next_in history clock) }
         ensures history { IfOk result (λ stamp. (history : List Entry) → Represents self.old history
             → Represents self.new (history ++ sent stamp ∷ [])) }
     {

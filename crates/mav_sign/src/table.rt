@@ -1,5 +1,6 @@
 // The last admitted timestamp of each stream.
-ghost use Rattle.std.specs.Prelude.{◌≡◌, ◌<◌, ◌+◌, ◌==◌, ℕ, [], length, Some, None, IfOk, OnOk, OnErr, is_some, if◌then◌else◌};
+ghost use Rattle.std.specs.Prelude.{◌≡◌, ◌<◌, ◌+◌, ◌==◌, ℕ, [], length, Some, None, IfOk, OnOk, OnErr, is_some};
+ghost use Rattle.std.specs.Prelude.{if◌then◌else◌};
 ghost use Rattle.mav_sign.specs.Kept.{Forgets, stream_number, stamp_at};
 
 use crate::NoMemory;

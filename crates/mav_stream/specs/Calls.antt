@@ -16,7 +16,8 @@ pub data Call : Type 0 where
 -- what the call does
 abbrev pub CallIs : Held → Call → Held → Type 0
 CallIs old (fed piece count) new =
-    (old.ended ≡ false) × (count ≡ min (length piece) (280 - length old.bytes)) × (new ≡ record old { bytes = old.bytes ++ take count piece })
+    (old.ended ≡ false) × (count ≡ min (length piece) (280 - length old.bytes))
+    × (new ≡ record old { bytes = old.bytes ++ take count piece })
 CallIs old closed new = new ≡ record old { ended = true }
 CallIs old (asked answer) new = NextIs old answer new
 
@@ -39,9 +40,13 @@ events_of (asked answer) = given_by answer
 -- over any list of calls the events given are a prefix of the parse of the bytes taken
 abbrev pub AnyCalls : Type 0
 AnyCalls =
-    (extras : List (ℕ × ℕ)) (reads_old : Bool) (calls : List Call) (held : Held) → CallsAre (nothing_held extras reads_old) calls held → Progress extras reads_old (flat_map taken_by calls) (flat_map events_of calls) held
+    (extras : List (ℕ × ℕ)) (reads_old : Bool) (calls : List Call) (held : Held)
+    → CallsAre (nothing_held extras reads_old) calls held
+    → Progress extras reads_old (flat_map taken_by calls) (flat_map events_of calls) held
 
 -- and they are the whole parse if `next` then returns Need
 abbrev pub AnyCallsToNeed : Type 0
 AnyCallsToNeed =
-    (extras : List (ℕ × ℕ)) (reads_old : Bool) (calls : List Call) (held new : Held) → CallsAre (nothing_held extras reads_old) calls held → CallIs held (asked Need) new → IsWhole extras reads_old (flat_map taken_by calls) (flat_map events_of calls) held
+    (extras : List (ℕ × ℕ)) (reads_old : Bool) (calls : List Call) (held new : Held)
+    → CallsAre (nothing_held extras reads_old) calls held → CallIs held (asked Need) new
+    → IsWhole extras reads_old (flat_map taken_by calls) (flat_map events_of calls) held

@@ -1,6 +1,7 @@
 -- How many bytes that begin no frame are skipped one by one for one reason (MAVLink guide, MAVLink 2 Packet Format and
 -- MAVLink 1 Packet Format: STX begins a frame; Incompatibility Flags).
-use Rattle.std.specs.Prelude.{ℕ, zero, suc, ◌+◌, ◌-◌, ◌==◌, ◌&&◌, ◌||◌, Bool, false, not, nat_lt, nat_le, is_none, List, length, slice_index, drop, min, if◌then◌else◌}
+use Rattle.std.specs.Prelude.{ℕ, zero, suc, ◌+◌, ◌-◌, ◌==◌, ◌&&◌, ◌||◌, Bool, false, not, nat_lt, nat_le, is_none}
+use Rattle.std.specs.Prelude.{List, length, slice_index, drop, min, if◌then◌else◌}
 use Rattle.x25_check.specs.Extras.{extra_of}
 use Rattle.mav_frame.specs.declared.looks.Why.{Why}
 use Rattle.mav_frame.specs.declared.looks.Why.TheVariants.{NotStx, UnknownFlag, UnknownId, BadCheck, Short}
@@ -24,7 +25,8 @@ abbrev pub skips_at : Why → List (ℕ × ℕ) → Bool → List ℕ → ℕ �
 skips_at NotStx extras reads_old b at = not (is_stx reads_old (slice_index b at))
 skips_at UnknownFlag extras reads_old b at = is_marked 0xFD 2 1 b at
 skips_at UnknownId extras reads_old b at =
-    reads_old && (slice_index b at == 0xFE && (nat_le (at + 6) (length b) && is_none (extra_of (slice_index b (at + 5)) extras)))
+    reads_old && (slice_index b at == 0xFE && (nat_le (at + 6) (length b)
+    && is_none (extra_of (slice_index b (at + 5)) extras)))
 skips_at BadCheck extras reads_old b at = false
 skips_at Short extras reads_old b at = false
 

@@ -1,5 +1,6 @@
 -- What is at the start of the bytes that a scanner holds.
-use Rattle.std.specs.Prelude.{ℕ, ◌≡◌, ◌<◌, ◌≤◌, ◌&&◌, nat_lt, Bool, if◌then◌else◌, List, [], ◌∷◌, ◌++◌, length, take, drop, map}
+use Rattle.std.specs.Prelude.{ℕ, ◌≡◌, ◌<◌, ◌≤◌, ◌&&◌, nat_lt, Bool, if◌then◌else◌, List, [], ◌∷◌, ◌++◌, length, take}
+use Rattle.std.specs.Prelude.{drop, map}
 use Rattle.mav_frame.specs.Packet.{Packet}
 use Rattle.mav_frame.specs.Encoding.{encoding}
 use Rattle.mav_frame.specs.Looks.{frame_size_at, is_old_at, look_of, packet_at}
@@ -64,16 +65,18 @@ IfFrame (Frame size) P = P size
 IfFrame (Skipped why count) P = Unit {0}
 IfFrame Need P = Unit {0}
 
--- what is at the start of the bytes held, and what follows of it and of the parse so far: a frame's length is that of its
--- encoding; the events given and those at the start are a prefix of the parse; at Need all of it was given, and what is left
--- is less than the longest frame
+-- what is at the start of the bytes held, and what follows of it and of the parse so far: a frame's length is that of
+-- its encoding; the events given and those at the start are a prefix of the parse; at Need all of it was given, and
+-- what is left is less than the longest frame
 pub record IsNextSpan (held : Held) (span : NextSpan) : Type 0 where
   pub exact : span ≡ next_span held
   pub within : span_size span ≤ length held.bytes
   pub some : IfEvent span (0 < span_size span)
-  pub frame : IfFrame span (λ size. (size ≡ length (encoding (first_packet held))) × (size ≡ frame_size_at (is_old_at held.reads_old held.bytes) held.bytes))
+  pub frame : IfFrame span (λ size. (size ≡ length (encoding (first_packet held)))
+      × (size ≡ frame_size_at (is_old_at held.reads_old held.bytes) held.bytes))
   pub progress : (extras : List (ℕ × ℕ)) (reads_old : Bool) (taken : List ℕ) (given : List Event)
-      → Progress extras reads_old taken given held → Progress extras reads_old taken (given ++ span_events held span) (held_after held span)
+      → Progress extras reads_old taken given held
+      → Progress extras reads_old taken (given ++ span_events held span) (held_after held span)
   pub whole : (extras : List (ℕ × ℕ)) (reads_old : Bool) (taken : List ℕ) (given : List Event)
       → Progress extras reads_old taken given held → IfNeed span (IsWhole extras reads_old taken given held)
   pub room : IfNeed span (length held.bytes < 280)

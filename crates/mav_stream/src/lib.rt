@@ -1,12 +1,14 @@
 //! Readers of MAVLink streams that come in pieces.
 //!
-//! [`Reader`] takes bytes by `feed`, holds 280 of them, and its `next` gives one event at a time: a frame, or a skipped
-//! byte and why no frame begins there. [`Scanner`] takes them by `feed` too and holds a large piece; its `next_span` says
-//! what is at the start of the bytes held: a frame, which isn't copied, or how many bytes are skipped one by one and why.
-//! [`PieceReader`] takes none: its `scan` gives a [`Scan`], which says the same of bytes where their read put them, and it
-//! keeps only the part of a frame with which these end, which goes before the next ones. The events of all three are
-//! those of the whole stream's parse as `mav_frame` defines it, whatever the pieces: of the incremental parse until `end`,
-//! and then of the final parse. Only `Scanner::new` and `PieceReader::new` allocate, and no other call fails.
+//! [`Reader`] takes bytes by `feed`, holds 280 of them, and its `next` gives one event at a time: a frame, or a
+//! skipped byte and why no frame begins there. [`Scanner`] takes them by `feed` too and holds a large piece; its
+//! `next_span` says what is at the start of the bytes held: a frame, which isn't copied, or how many bytes are skipped
+//! one by one and why.
+//! [`PieceReader`] takes none: its `scan` gives a [`Scan`], which says the same of bytes where their read put them,
+//! and it keeps only the part of a frame with which these end, which goes before the next ones. The events of all
+//! three are those of the whole stream's parse as `mav_frame` defines it, whatever the pieces: of the incremental
+//! parse until `end`, and then of the final parse. Only `Scanner::new` and `PieceReader::new` allocate, and no other
+//! call fails.
 #![tactic(auto)]
 
 pub mod laws;

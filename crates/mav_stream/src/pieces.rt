@@ -14,8 +14,9 @@ use x25_check::Extras;
 /// As many bytes as the longest frame has.
 pub const MOST_HELD: usize = 280;
 
-/// A reader of one stream, which contracts see as the bytes that it holds: those of a frame with which the last read ended,
-/// at most 280. They go before what the next read gives, and a scan is made over both; what that leaves is kept.
+/// A reader of one stream, which contracts see as the bytes that it holds: those of a frame with which the last read
+/// ended, at most 280. They go before what the next read gives, and a scan is made over both; what that leaves is
+/// kept.
 pub struct PieceReader {
     table: ExtrasTable,
     reads_old: bool,

@@ -67,9 +67,13 @@ impl Reader {
         // Fewer bytes are held, or there is room for more.
         ensures room { HasRoomAfter self.old result self.new }
         // The events given and this one are a prefix of the parse.
-        ensures progress { (extras : List (ℕ × ℕ)) (reads_old : Bool) (taken : List ℕ) (given : List Event) → Progress extras reads_old taken given self.old → Progress extras reads_old taken (given ++ given_by result) self.new }
+        ensures progress { (extras : List (ℕ × ℕ)) (reads_old : Bool) (taken : List ℕ) (given : List Event)
+            → Progress extras reads_old taken given self.old
+            → Progress extras reads_old taken (given ++ given_by result) self.new }
         // At Need all of it was given.
-        ensures whole { (extras : List (ℕ × ℕ)) (reads_old : Bool) (taken : List ℕ) (given : List Event) → Progress extras reads_old taken given self.old → WholeAtNeed extras reads_old taken given result self.new }
+        ensures whole { (extras : List (ℕ × ℕ)) (reads_old : Bool) (taken : List ℕ) (given : List Event)
+            → Progress extras reads_old taken given self.old
+            → WholeAtNeed extras reads_old taken given result self.new }
     {
         let _held = self.window.bytes();
         self.step()

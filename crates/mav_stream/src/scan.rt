@@ -12,8 +12,8 @@ use crate::window::as_bytes;
 use mav_frame::{FrameCheck, RawFrame, Why, check_frame};
 use std::marker::Model;
 
-/// Bytes of a stream where they stand, which contracts see as held by their reader. Frames are found in them, and taken off
-/// from their start.
+/// Bytes of a stream where they stand, which contracts see as held by their reader. Frames are found in them, and
+/// taken off from their start.
 #[derive(Drop)]
 pub struct Scan<'t, 'b> {
     table: &'t ExtrasTable,
@@ -27,7 +27,12 @@ impl<'t, 'b> Model for Scan<'t, 'b> {
 
     ghost Value = { Held };
 
-    ghost view = { λ s. record { extras = s.table.now; reads_old = s.reads_old; bytes = s.bytes.now; ended = s.ended } };
+    ghost view = { λ s. record {
+      extras = s.table.now;
+      reads_old = s.reads_old;
+      bytes = s.bytes.now;
+      ended = s.ended;
+    } };
 }
 
 impl<'t, 'b> Scan<'t, 'b> {
@@ -97,7 +102,8 @@ impl<'t, 'b> Scan<'t, 'b> {
     // What the bytes begin with.
     #[inline(always)]
     fn check(&self) -> FrameCheck
-        ensures { look_by result (is_old_at self.now.reads_old self.now.bytes) self.now.bytes ≡ look_of self.now.extras self.now.reads_old self.now.bytes }
+        ensures { look_by result (is_old_at self.now.reads_old self.now.bytes) self.now.bytes
+            ≡ look_of self.now.extras self.now.reads_old self.now.bytes }
     {
         check_frame(self.table, self.reads_old, self.bytes)
     }

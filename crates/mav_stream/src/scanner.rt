@@ -32,7 +32,12 @@ impl Model for Scanner {
 
     ghost Value = { Held };
 
-    ghost view = { λ s. record { extras = s.table; reads_old = s.reads_old; bytes = s.window.value; ended = s.ended } };
+    ghost view = { λ s. record {
+      extras = s.table;
+      reads_old = s.reads_old;
+      bytes = s.window.value;
+      ended = s.ended;
+    } };
 }
 
 impl Scanner {

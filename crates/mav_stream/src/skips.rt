@@ -48,8 +48,8 @@ fn before_stx(reads_old: bool, bytes: &[u8]) -> usize
     }
 }
 
-// Whether a byte is at an offset, and a higher one than `high` so many bytes after it; both are read, which a loop can do
-// for several offsets at once.
+// Whether a byte is at an offset, and a higher one than `high` so many bytes after it; both are read, which a loop can
+// do for several offsets at once.
 #[inline(always)]
 fn is_marked(bytes: &[u8], at: usize, byte: u8, gap: usize, high: u8) -> bool
     requires { at + gap < length bytes.now }

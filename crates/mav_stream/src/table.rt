@@ -31,7 +31,8 @@ impl Model for ExtrasTable {
 
     ghost view = { λ t. t.extras };
 
-    ghost invariant = { λ t. (length t.low.items ≡ 65536) × ((id : ℕ) → id < 65536 → byte_of (slice_index t.low.items id) ≡ extra_of id t.extras) };
+    ghost invariant = { λ t. (length t.low.items ≡ 65536)
+        × ((id : ℕ) → id < 65536 → byte_of (slice_index t.low.items id) ≡ extra_of id t.extras) };
 }
 
 // What an entry represents.
@@ -51,7 +52,9 @@ fn extra_in(entry: u16) -> Option<u8>
 fn put(low: &mut [u16], pair: (u32, u8))
     requires { length low.old ≡ 65536 }
     ensures length { length low.new ≡ 65536 }
-    ensures entries { (id : ℕ) (pairs : List (ℕ × ℕ)) → id < 65536 → byte_of (slice_index low.old id) ≡ extra_of id pairs → byte_of (slice_index low.new id) ≡ extra_of id (pair ∷ pairs) }
+    ensures entries { (id : ℕ) (pairs : List (ℕ × ℕ)) → id < 65536
+        → byte_of (slice_index low.old id) ≡ extra_of id pairs
+        → byte_of (slice_index low.new id) ≡ extra_of id (pair ∷ pairs) }
 {
     let (id, extra) = pair;
     let index = id as usize;

@@ -1,5 +1,6 @@
 // The bytes that readers hold.
-ghost use Rattle.std.specs.Prelude.{◌≡◌, ℕ, ◌+◌, ◌-◌, ◌<◌, ◌≤◌, ◌++◌, [], length, take, drop, min, slice_index, slice_range};
+ghost use Rattle.std.specs.Prelude.{◌≡◌, ℕ, ◌+◌, ◌-◌, ◌<◌, ◌≤◌, ◌++◌, [], length, take, drop, min, slice_index};
+ghost use Rattle.std.specs.Prelude.{slice_range};
 
 use std::marker::Model;
 

@@ -1,8 +1,10 @@
 -- The texts of frames and of skipped bytes.
-use Rattle.std.specs.Prelude.{ℕ, zero, suc, ◌+◌, ◌-◌, ◌/◌, ◌%◌, ◌^◌, ◌==◌, Bool, true, false, nat_lt, if◌then◌else◌, List, [], ◌∷◌, ◌++◌, take, codes, Option, Some, None}
+use Rattle.std.specs.Prelude.{ℕ, zero, suc, ◌+◌, ◌-◌, ◌/◌, ◌%◌, ◌^◌, ◌==◌, Bool, true, false, nat_lt, if◌then◌else◌}
+use Rattle.std.specs.Prelude.{List, [], ◌∷◌, ◌++◌, take, codes, Option, Some, None}
 use Rattle.std.specs.Fmt.{decimal}
 use Rattle.field_layout.specs.declared.ty.Ty.{Ty}
-use Rattle.field_layout.specs.declared.ty.Ty.TheVariants.{I8, U8, Char, I16, U16, I32, U32, I64, U64, F32, F64, Version}
+use Rattle.field_layout.specs.declared.ty.Ty.TheVariants.{I8, U8, Char, I16, U16, I32, U32, I64, U64, F32, F64}
+use Rattle.field_layout.specs.declared.ty.Ty.TheVariants.{Version}
 use Rattle.field_layout.specs.declared.fields.Field.{Field}
 use Rattle.field_layout.specs.Types.{element_size}
 use Rattle.field_layout.specs.Definition.{Definition, all_fields, base_len_of, element_count}
@@ -77,7 +79,8 @@ field_text field words = 32 ∷ field.name ++ 61 ∷ value_text field words
 -- the fields from an index on, each with its words
 abbrev pub fields_text : (ℕ → Field → List ℕ) → ℕ → List Field → List ℕ
 fields_text words number [] = []
-fields_text words number (field ∷ fields) = field_text field (words number field) ++ fields_text words (number + 1) fields
+fields_text words number (field ∷ fields) =
+    field_text field (words number field) ++ fields_text words (number + 1) fields
 
 -- ---- frames
 
@@ -99,14 +102,16 @@ block_text (Some block) = codes " signed " ++ decimal block.link ++ 32 ∷ decim
 -- a frame from its name on, where the fields have these words
 abbrev pub frame_text_of : (ℕ → Field → List ℕ) → Definition → Packet → List ℕ
 frame_text_of words def packet =
-    def.name ++ sender_text packet ++ version_text packet.old ++ fields_text words 0 (all_fields def) ++ block_text packet.block
+    def.name ++ sender_text packet ++ version_text packet.old ++ fields_text words 0 (all_fields def)
+    ++ block_text packet.block
 
 -- the words of a field as a payload has them, whose bytes past its end are 0
 abbrev pub words_in : Definition → List ℕ → ℕ → Field → List ℕ
-words_in def payload number field = words_from payload (offset_of def number) (element_size field.ty) (element_count field)
+words_in def payload number field = words_from payload (offset_of def number) (element_size field.ty)
+    (element_count field)
 
--- the bytes of a payload that values are read from: of a frame of MAVLink 1 none past the base fields, so that its extension
--- fields are 0
+-- the bytes of a payload that values are read from: of a frame of MAVLink 1 none past the base fields, so that its
+-- extension fields are 0
 abbrev pub value_bytes : ℕ → Packet → List ℕ
 value_bytes base_len packet = if packet.old then take base_len packet.payload else packet.payload
 

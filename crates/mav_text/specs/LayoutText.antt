@@ -24,7 +24,8 @@ field_line def field =
 -- `ID NAME len BASE full FULL extra EXTRA`
 abbrev pub message_line : Definition → List ℕ
 message_line def =
-    line (decimal def.id ++ codes " " ++ def.name ++ codes " len " ++ decimal (base_len_of def) ++ codes " full " ++ decimal (full_len_of def)
+    line (decimal def.id ++ codes " " ++ def.name ++ codes " len " ++ decimal (base_len_of def) ++ codes " full "
+    ++ decimal (full_len_of def)
     ++ codes " extra " ++ decimal (crc_extra_of def))
 
 -- the line of a message and those of its fields in wire order

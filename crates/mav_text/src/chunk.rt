@@ -1,5 +1,6 @@
 // Texts that are put together in a fixed chunk of bytes, of which those up to an index count.
-ghost use Rattle.std.specs.Prelude.{◌≡◌, ◌+◌, ◌/◌, ◌%◌, ◌≤◌, ◌++◌, length, replicate, take, vec_len, slice_index, slice_range, slice_set, IfOk};
+ghost use Rattle.std.specs.Prelude.{◌≡◌, ◌+◌, ◌/◌, ◌%◌, ◌≤◌, ◌++◌, length, replicate, take, vec_len, slice_index};
+ghost use Rattle.std.specs.Prelude.{slice_range, slice_set, IfOk};
 
 use crate::NoMemory;
 
@@ -42,8 +43,8 @@ pub(crate) fn append_enough(
     Ok(0)
 }
 
-/// Puts the first `len` bytes of a part at an index, and returns the index after them. All of the part is copied, since
-/// a copy of fixed size is the fastest.
+/// Puts the first `len` bytes of a part at an index, and returns the index after them. All of the part is copied,
+/// since a copy of fixed size is the fastest.
 #[inline(always)]
 pub fn put_part<const N: usize>(chunk: &mut [u8; N], at: usize, part: &[u8], len: usize) -> usize
     requires room { at + length part.now ≤ N }
@@ -89,7 +90,8 @@ fn put_eight<const N: usize, const M: usize>(
     at + 8
 }
 
-/// Puts the first `len` bytes of a part, at most 24, at an index, and returns the index after them. Always 24 are copied.
+/// Puts the first `len` bytes of a part, at most 24, at an index, and returns the index after them. Always 24 are
+/// copied.
 #[inline(always)]
 pub(crate) fn put_short<const N: usize, const M: usize>(
     chunk: &mut [u8; N],

@@ -1,5 +1,6 @@
 // Numbers that are put into a chunk.
-ghost use Rattle.std.specs.Prelude.{◌≡◌, ◌+◌, ◌-◌, ◌*◌, ◌/◌, ◌%◌, ◌^◌, ◌<◌, ◌≤◌, ◌∷◌, ◌++◌, length, take, nat_lt, if◌then◌else◌};
+ghost use Rattle.std.specs.Prelude.{◌≡◌, ◌+◌, ◌-◌, ◌*◌, ◌/◌, ◌%◌, ◌^◌, ◌<◌, ◌≤◌, ◌∷◌, ◌++◌, length, take, nat_lt};
+ghost use Rattle.std.specs.Prelude.{if◌then◌else◌};
 ghost use Rattle.std.specs.Fmt.{decimal};
 ghost use Rattle.mav_text.specs.FrameText.{pair_text, word_hex};
 
@@ -35,7 +36,8 @@ fn put_four<const N: usize>(chunk: &mut [u8; N], at: usize, number: u32) -> usiz
     requires room { at + 4 ≤ N }
     requires number { number < 10000 }
     ensures index { result ≡ at + 4 }
-    ensures text { take result chunk.new ≡ take at chunk.old ++ (pair_text (number / 100) ++ pair_text (number % 100)) }
+    ensures text { take result chunk.new ≡ take at chunk.old
+        ++ (pair_text (number / 100) ++ pair_text (number % 100)) }
 {
     let index = put_two(chunk, at, pair_digits((number / 100) as usize));
     put_two(chunk, index, pair_digits((number % 100) as usize))
@@ -47,7 +49,9 @@ fn put_eight<const N: usize>(chunk: &mut [u8; N], at: usize, number: u32) -> usi
     requires room { at + 8 ≤ N }
     requires number { number < 100000000 }
     ensures index { result ≡ at + 8 }
-    ensures text { take result chunk.new ≡ take at chunk.old ++ ((pair_text (number / 10000 / 100) ++ pair_text (number / 10000 % 100)) ++ (pair_text (number % 10000 / 100) ++ pair_text (number % 10000 % 100))) }
+    ensures text { take result chunk.new ≡ take at chunk.old
+        ++ ((pair_text (number / 10000 / 100) ++ pair_text (number / 10000 % 100))
+        ++ (pair_text (number % 10000 / 100) ++ pair_text (number % 10000 % 100))) }
 {
     let index = put_four(chunk, at, number / 10_000);
     put_four(chunk, index, number % 10_000)
@@ -134,7 +138,8 @@ pub(crate) fn put_signed<const N: usize>(
     requires word { word < 2 * half }
     requires room { at + 25 ≤ N }
     ensures index { (at ≤ result) × (result ≤ at + 21) }
-    ensures text { take result chunk.new ≡ take at chunk.old ++ (if nat_lt word half then decimal word else 45 ∷ decimal (2 * half - word)) }
+    ensures text { take result chunk.new ≡ take at chunk.old
+        ++ (if nat_lt word half then decimal word else 45 ∷ decimal (2 * half - word)) }
 {
     if word < half {
         return put_number(chunk, at, word);

@@ -27,7 +27,8 @@ fn put_name(
     out: &mut Vec<u8>,
 ) -> Result<usize, NoMemory>
     requires { at ≤ 1000 }
-    ensures text { IfOk result (λ end. out.new.items ++ take end chunk.new ≡ (out.old.items ++ take at chunk.old) ++ name.now) }
+    ensures text { IfOk result (λ end. out.new.items ++ take end chunk.new ≡ (out.old.items ++ take at chunk.old)
+        ++ name.now) }
     ensures room { IfOk result (λ end. end ≤ at + 128) }
     ensures prefix { take (vec_len out.old) out.new.items ≡ out.old.items }
 {
@@ -51,7 +52,9 @@ fn put_field(
     requires within { offset + size_of field.now ≤ length payload.now }
     requires payload { length payload.now ≤ 255 }
     requires room { at ≤ 512 }
-    ensures text { IfOk result (λ end. out.new.items ++ take end chunk.new ≡ (out.old.items ++ take at chunk.old) ++ field_text field.now (words_from payload.now offset (element_size field.now.ty) (element_count field.now))) }
+    ensures text { IfOk result (λ end. out.new.items ++ take end chunk.new ≡ (out.old.items ++ take at chunk.old)
+        ++ field_text field.now (words_from payload.now offset (element_size field.now.ty)
+        (element_count field.now))) }
     ensures room { IfOk result (λ end. end ≤ 512) }
     ensures prefix { take (vec_len out.old) out.new.items ≡ out.old.items }
 {
@@ -72,7 +75,8 @@ fn put_all(
 ) -> Result<usize, NoMemory>
     requires payload { length payload.now ≡ 255 }
     requires room { at ≤ 512 }
-    ensures text { IfOk result (λ end. out.new.items ++ take end chunk.new ≡ (out.old.items ++ take at chunk.old) ++ fields_text (words_in layout.now payload.now) 0 (all_fields layout.now)) }
+    ensures text { IfOk result (λ end. out.new.items ++ take end chunk.new ≡ (out.old.items ++ take at chunk.old)
+        ++ fields_text (words_in layout.now payload.now) 0 (all_fields layout.now)) }
     ensures room { IfOk result (λ end. end ≤ 512) }
     ensures prefix { take (vec_len out.old) out.new.items ≡ out.old.items }
 {
@@ -107,7 +111,9 @@ fn put_fields_of(
     out: &mut Vec<u8>,
 ) -> Result<usize, NoMemory>
     requires { at ≤ 512 }
-    ensures text { IfOk result (λ end. out.new.items ++ take end chunk.new ≡ (out.old.items ++ take at chunk.old) ++ fields_text (words_in layout.now (value_bytes (base_len_of layout.now) frame.now)) 0 (all_fields layout.now)) }
+    ensures text { IfOk result (λ end. out.new.items ++ take end chunk.new ≡ (out.old.items ++ take at chunk.old)
+        ++ fields_text (words_in layout.now (value_bytes (base_len_of layout.now) frame.now)) 0
+        (all_fields layout.now)) }
     ensures room { IfOk result (λ end. end ≤ 512) }
     ensures prefix { take (vec_len out.old) out.new.items ≡ out.old.items }
 {
@@ -133,8 +139,8 @@ fn append(layout: &Layout, frame: &Frame, out: &mut Vec<u8>) -> Result<(), NoMem
     Ok(())
 }
 
-/// Appends `decode`'s text of a frame of that layout from the message's name to its last field, and ` signed LINK STAMP`
-/// if the frame is signed, without a line end. The frame's id is the layout's.
+/// Appends `decode`'s text of a frame of that layout from the message's name to its last field, and ` signed LINK
+/// STAMP` if the frame is signed, without a line end. The frame's id is the layout's.
 pub fn put_fields(layout: &Layout, frame: &Frame, out: &mut Vec<u8>) -> Result<(), NoMemory>
     ensures ok { OnOk result (out.new.items ≡ out.old.items ++ frame_text layout.now frame.now) }
     ensures err { OnErr result (out.new.items ≡ out.old.items) }

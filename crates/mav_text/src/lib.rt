@@ -1,8 +1,8 @@
 //! Texts: the lines of a layout, the text of a frame with its fields, the line of a skipped byte.
 //!
-//! Each call that appends to a `Vec` appends exactly its text, or leaves its output as it was. [`put_part`], [`put_small`]
-//! and [`put_number`] put a text at an index of a fixed buffer and return the index after it, so that a line is put
-//! together there and appended once.
+//! Each call that appends to a `Vec` appends exactly its text, or leaves its output as it was. [`put_part`],
+//! [`put_small`] and [`put_number`] put a text at an index of a fixed buffer and return the index after it, so that a
+//! line is put together there and appended once.
 #![tactic(auto)]
 
 mod chunk;

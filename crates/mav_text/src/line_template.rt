@@ -1,5 +1,6 @@
 // What is kept of a message, so that its frames are written fast.
-ghost use Rattle.std.specs.Prelude.{◌≡◌, ◌+◌, ◌≤◌, ◌∷◌, ◌++◌, [], length, take, vec_len, OnOk, OnErr, IfOk, IfSome, is_some};
+ghost use Rattle.std.specs.Prelude.{◌≡◌, ◌+◌, ◌≤◌, ◌∷◌, ◌++◌, [], length, take, vec_len, OnOk, OnErr, IfOk, IfSome};
+ghost use Rattle.std.specs.Prelude.{is_some};
 ghost use Rattle.std.specs.Fmt.{decimal};
 ghost use Rattle.field_layout.specs.Definition.{all_fields};
 ghost use Rattle.mav_frame.specs.Looks.{frame_size_at, header_size, packet_at};
@@ -48,7 +49,8 @@ impl Model for Prefix {
     ghost invariant = { λ f. f.len ≤ 72 };
 }
 
-/// A field as it is written: what stands before its value, its type and length, and where its value begins in the payload.
+/// A field as it is written: what stands before its value, its type and length, and where its value begins in the
+/// payload.
 #[derive(Drop)]
 pub(crate) struct FieldTemplate {
     prefix: Prefix,
@@ -80,7 +82,12 @@ impl Model for LineTemplate {
 
     ghost Value = { spec.LineTemplate };
 
-    ghost view = { λ t. record { name = t.name; field_templates = t.field_templates.items; base_len = t.base_len; full_len = t.full_len } };
+    ghost view = { λ t. record {
+      name = t.name;
+      field_templates = t.field_templates.items;
+      base_len = t.base_len;
+      full_len = t.full_len;
+    } };
 
     ghost invariant = { λ t. (t.full_len ≤ 255) × spec.AreWithin t.full_len t.field_templates.items };
 }
@@ -160,8 +167,10 @@ fn field_templates_of(
     alloc: Global,
     layout: &Layout,
 ) -> Result<Option<Vec<FieldTemplate>>, NoMemory>
-    ensures field_templates { IfOk result (λ made. IfSome made (λ field_templates. field_templates.items ≡ spec.field_templates_from layout.now 0 (all_fields layout.now))) }
-    ensures short { IfOk result (λ made. is_some made ≡ spec.are_short (spec.field_templates_from layout.now 0 (all_fields layout.now))) }
+    ensures field_templates { IfOk result (λ made. IfSome made
+        (λ field_templates. field_templates.items ≡ spec.field_templates_from layout.now 0 (all_fields layout.now))) }
+    ensures short { IfOk result (λ made. is_some made
+        ≡ spec.are_short (spec.field_templates_from layout.now 0 (all_fields layout.now))) }
 {
     let def = layout.def();
     let mut field_templates = Vec::new(alloc);
@@ -187,7 +196,8 @@ fn put_field_templates(
     requires payload { length payload.now ≤ 255 }
     requires room { at ≤ 512 }
     ensures room { IfOk result (λ left. left ≤ 512) }
-    ensures text { IfOk result (λ left. out.new.items ++ take left chunk.new ≡ (out.old.items ++ take at chunk.old) ++ spec.field_templates_text payload.now field_templates.now) }
+    ensures text { IfOk result (λ left. out.new.items ++ take left chunk.new ≡ (out.old.items ++ take at chunk.old)
+        ++ spec.field_templates_text payload.now field_templates.now) }
     ensures prefix { take (vec_len out.old) out.new.items ≡ out.old.items }
 {
     let mut left = at;
@@ -252,7 +262,8 @@ fn put_signed_by(is_old: bool, frame: &[u8], chunk: &mut [u8; 2048], at: usize) 
 impl LineTemplate {
     /// What is kept of a message, if none of its names is too long.
     pub(crate) fn of(alloc: Global, layout: &Layout) -> Result<Option<LineTemplate>, NoMemory>
-        ensures same { IfOk result (λ made. IfSome made (λ line_template. line_template ≡ spec.line_template_of layout.now)) }
+        ensures same { IfOk result (λ made. IfSome made
+            (λ line_template. line_template ≡ spec.line_template_of layout.now)) }
         ensures short { IfOk result (λ made. is_some made ≡ spec.has_short_names layout.now) }
     {
         let Some(name) = Prefix::of(layout.def().name.bytes()) else {
@@ -274,7 +285,8 @@ impl LineTemplate {
     fn put_head(&self, is_old: bool, offset: u64, frame: &[u8], chunk: &mut [u8; 2048]) -> usize
         requires { header_size is_old ≤ length frame.now }
         ensures index { result ≤ 512 }
-        ensures text { take result chunk.new ≡ (((decimal offset ++ 32 ∷ []) ++ self.now.name) ++ sender_text (packet_at is_old frame.now)) ++ version_text is_old }
+        ensures text { take result chunk.new ≡ (((decimal offset ++ 32 ∷ []) ++ self.now.name)
+            ++ sender_text (packet_at is_old frame.now)) ++ version_text is_old }
     {
         let index = put_offset(offset, chunk);
         let index = self.name.put(chunk, index);
@@ -312,7 +324,8 @@ impl LineTemplate {
         requires payload { length payload.now ≤ 255 }
         requires room { at ≤ 512 }
         ensures room { IfOk result (λ left. left ≤ 512) }
-        ensures text { IfOk result (λ left. out.new.items ++ take left chunk.new ≡ (out.old.items ++ take at chunk.old) ++ spec.field_templates_text payload.now self.now.field_templates) }
+        ensures text { IfOk result (λ left. out.new.items ++ take left chunk.new ≡ (out.old.items ++ take at chunk.old)
+            ++ spec.field_templates_text payload.now self.now.field_templates) }
         ensures prefix { take (vec_len out.old) out.new.items ≡ out.old.items }
     {
         if payload.len() < self.full_len {
@@ -334,7 +347,8 @@ impl LineTemplate {
     ) -> Result<(), NoMemory>
         requires whole { frame_size_at is_old frame.now ≤ length frame.now }
         requires short { length ending.now ≤ 16 }
-        ensures ok { OnOk result (out.new.items ≡ out.old.items ++ spec.template_line self.now offset (packet_at is_old frame.now) ending.now) }
+        ensures ok { OnOk result (out.new.items ≡ out.old.items
+            ++ spec.template_line self.now offset (packet_at is_old frame.now) ending.now) }
         ensures err { OnErr result (take (vec_len out.old) out.new.items ≡ out.old.items) }
     {
         let head = self.put_head(is_old, offset, frame, chunk);

@@ -1,5 +1,6 @@
 // The lines of frames of a dialect's messages.
-ghost use Rattle.std.specs.Prelude.{◌≡◌, ◌≤◌, ◌<◌, ◌++◌, ℕ, None, length, slice_index_or, take, vec_len, option_map, true, false, Some, OnOk, OnErr, IfOk, IfSome};
+ghost use Rattle.std.specs.Prelude.{◌≡◌, ◌≤◌, ◌<◌, ◌++◌, ℕ, None, length, slice_index_or, take, vec_len, option_map};
+ghost use Rattle.std.specs.Prelude.{true, false, Some, OnOk, OnErr, IfOk, IfSome};
 ghost use Rattle.mav_profile.specs.Messages.{definition_with};
 ghost use Rattle.mav_frame.specs.Looks.{id_at, is_old_at, frame_size_at, header_size, packet_at};
 ghost use Rattle.mav_text.specs.TemplateText.{HasIndices, line_of, line_template_of};
@@ -155,7 +156,8 @@ fn append_by_layout(
 ) -> Result<(), NoMemory>
     requires version { is_old_at is_old frame.now ≡ is_old }
     requires whole { frame_size_at is_old frame.now ≤ length frame.now }
-    ensures ok { OnOk result (out.new.items ≡ out.old.items ++ line_of (Some layout.now) offset (packet_at is_old frame.now) ending.now) }
+    ensures ok { OnOk result (out.new.items ≡ out.old.items
+        ++ line_of (Some layout.now) offset (packet_at is_old frame.now) ending.now) }
     ensures err { OnErr result (take (vec_len out.old) out.new.items ≡ out.old.items) }
 {
     let end = put_offset(offset, chunk);
@@ -189,7 +191,8 @@ impl LineTemplates {
     // The template of an id, if one is kept.
     #[inline(always)]
     fn line_template(&self, id: u32) -> Option<&LineTemplate>
-        ensures { IfSome result (λ line_template. option_map line_template_of (definition_with id self.now) ≡ Some line_template.now) }
+        ensures { IfSome result (λ line_template. option_map line_template_of (definition_with id self.now)
+            ≡ Some line_template.now) }
     {
         if id as usize >= LOW_IDS {
             return None;
@@ -212,7 +215,9 @@ impl LineTemplates {
         requires version { is_old_at is_old frame.now ≡ is_old }
         requires whole { frame_size_at is_old frame.now ≤ length frame.now }
         requires short { length ending.now ≤ 16 }
-        ensures ok { OnOk result (out.new.items ≡ out.old.items ++ line_of (definition_with (id_at is_old frame.now) self.now) offset (packet_at is_old frame.now) ending.now) }
+        ensures ok { OnOk result (out.new.items ≡ out.old.items
+            ++ line_of (definition_with (id_at is_old frame.now) self.now) offset
+            (packet_at is_old frame.now) ending.now) }
         ensures err { OnErr result (take (vec_len out.old) out.new.items ≡ out.old.items) }
     {
         let id = read_id(is_old, frame);
@@ -225,7 +230,8 @@ impl LineTemplates {
         }
     }
 
-    // The same for a frame of MAVLink 1. It is a call of its own, so that the code for MAVLink 2 asks for the version once.
+    // The same for a frame of MAVLink 1. It is a call of its own, so that the code for MAVLink 2 asks for the version
+    // once.
     #[inline(never)]
     fn append_old_line(
         &self,
@@ -238,7 +244,9 @@ impl LineTemplates {
         requires version { is_old_at true frame.now ≡ true }
         requires whole { frame_size_at true frame.now ≤ length frame.now }
         requires short { length ending.now ≤ 16 }
-        ensures ok { OnOk result (out.new.items ≡ out.old.items ++ line_of (definition_with (id_at true frame.now) self.now) offset (packet_at true frame.now) ending.now) }
+        ensures ok { OnOk result (out.new.items ≡ out.old.items
+            ++ line_of (definition_with (id_at true frame.now) self.now) offset
+            (packet_at true frame.now) ending.now) }
         ensures err { OnErr result (take (vec_len out.old) out.new.items ≡ out.old.items) }
     {
         self.append_line(true, offset, frame, ending, chunk, out)
@@ -257,7 +265,9 @@ impl LineTemplates {
     ) -> Result<(), NoMemory>
         requires whole { frame_size_at (is_old_at old frame.now) frame.now ≤ length frame.now }
         requires short { length ending.now ≤ 16 }
-        ensures ok { OnOk result (out.new.items ≡ out.old.items ++ line_of (definition_with (id_at (is_old_at old frame.now) frame.now) self.now) offset (packet_at (is_old_at old frame.now) frame.now) ending.now) }
+        ensures ok { OnOk result (out.new.items ≡ out.old.items
+            ++ line_of (definition_with (id_at (is_old_at old frame.now) frame.now) self.now) offset
+            (packet_at (is_old_at old frame.now) frame.now) ending.now) }
         ensures err { OnErr result (take (vec_len out.old) out.new.items ≡ out.old.items) }
     {
         if is_old_frame(old, frame) {
@@ -267,9 +277,9 @@ impl LineTemplates {
         }
     }
 
-    /// Appends the line of the frame that stands at the start of some bytes: its offset in the stream, its text from its
-    /// message's name on, ` signed LINK STAMP` if it is signed, and an ending. Nothing for an unknown message. `old` says that
-    /// frames of MAVLink 1 are read.
+    /// Appends the line of the frame that stands at the start of some bytes: its offset in the stream, its text from
+    /// its message's name on, ` signed LINK STAMP` if it is signed, and an ending. Nothing for an unknown message.
+    /// `old` says that frames of MAVLink 1 are read.
     pub fn put_line(
         &self,
         old: bool,
@@ -281,7 +291,9 @@ impl LineTemplates {
     ) -> Result<(), NoMemory>
         requires whole { frame_size_at (is_old_at old frame.now) frame.now ≤ length frame.now }
         requires short { length ending.now ≤ 16 }
-        ensures ok { OnOk result (out.new.items ≡ out.old.items ++ line_of (definition_with (id_at (is_old_at old frame.now) frame.now) self.now) offset (packet_at (is_old_at old frame.now) frame.now) ending.now) }
+        ensures ok { OnOk result (out.new.items ≡ out.old.items
+            ++ line_of (definition_with (id_at (is_old_at old frame.now) frame.now) self.now) offset
+            (packet_at (is_old_at old frame.now) frame.now) ending.now) }
         ensures err { OnErr result (out.new.items ≡ out.old.items) }
     {
         let before = out.len();

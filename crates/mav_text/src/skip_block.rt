@@ -1,5 +1,6 @@
 // The lines of a hundred skipped bytes at once.
-ghost use Rattle.std.specs.Prelude.{◌≡◌, ℕ, ◌+◌, ◌*◌, ◌%◌, ◌^◌, ◌<◌, ◌≤◌, ◌++◌, ◌∷◌, [], codes, length, slice_range, take, OnOk, OnErr};
+ghost use Rattle.std.specs.Prelude.{◌≡◌, ℕ, ◌+◌, ◌*◌, ◌%◌, ◌^◌, ◌<◌, ◌≤◌, ◌++◌, ◌∷◌, [], codes, length, slice_range};
+ghost use Rattle.std.specs.Prelude.{take, OnOk, OnErr};
 ghost use Rattle.std.specs.Fmt.{decimal};
 ghost use Rattle.mav_text.specs.FrameText.{pair_text, skip_lines, why_text};
 ghost use Rattle.mav_text.specs.SkipBlocks.{blank_line, blank_lines};
@@ -15,9 +16,9 @@ use std::marker::Model;
 // The room for a hundred lines of at most 34 bytes, and for what is put behind the last one.
 const BLOCK_BYTES: usize = 3424;
 
-/// The lines of a hundred bytes, for one reason and one number of ten thousands: those of their offsets whose last four
-/// digits are `00` and a pair, with `00` in place of the byte's digits. A run of them is copied in one piece, and then
-/// the digits are written that aren't `00`.
+/// The lines of a hundred bytes, for one reason and one number of ten thousands: those of their offsets whose last
+/// four digits are `00` and a pair, with `00` in place of the byte's digits. A run of them is copied in one piece, and
+/// then the digits are written that aren't `00`.
 #[derive(Drop)]
 pub(crate) struct SkipBlock {
     ten_thousands: u64,
@@ -40,7 +41,8 @@ impl Model for SkipBlock {
     ghost invariant = { λ b. (0 < b.ten_thousands) × (b.ten_thousands < 1000000) × (b.line_len ≤ 34)
         × (b.hundreds_at ≡ length (decimal b.ten_thousands))
         × (b.line_len ≡ length (blank_line b.ten_thousands 0 b.why))
-        × ((count : ℕ) → count ≤ 100 → take (length (blank_lines count b.ten_thousands 0 b.why)) b.bytes ≡ blank_lines count b.ten_thousands 0 b.why) };
+        × ((count : ℕ) → count ≤ 100 → take (length (blank_lines count b.ten_thousands 0 b.why)) b.bytes
+        ≡ blank_lines count b.ten_thousands 0 b.why) };
 }
 
 // Puts the line of an offset whose last four digits are `00` and a pair.
@@ -56,7 +58,8 @@ fn put_blank(
     requires near { ten_thousands < 1000000 }
     requires pair { pair < 100 }
     ensures room { (at ≤ result) × (result ≤ at + 34) }
-    ensures text { take result bytes.new ≡ take at bytes.old ++ (decimal ten_thousands ++ (codes "00" ++ (pair_text pair ++ skip_ending.now))) }
+    ensures text { take result bytes.new ≡ take at bytes.old
+        ++ (decimal ten_thousands ++ (codes "00" ++ (pair_text pair ++ skip_ending.now))) }
 {
     let hundreds_at = put_middle(bytes, at, ten_thousands as u32);
     let pair_at = put_two(bytes, hundreds_at, [b'0', b'0']);
@@ -68,7 +71,8 @@ fn put_blank(
 fn put_blanks(bytes: &mut [u8; 3424], ten_thousands: u64, why: Why, skip_ending: &SkipEnding)
     requires near { ten_thousands < 1000000 }
     requires ending { skip_ending.now ≡ codes " skip 00 " ++ why_text why ++ 10 ∷ [] }
-    ensures { (count : ℕ) → count ≤ 100 → take (length (blank_lines count ten_thousands 0 why)) bytes.new ≡ blank_lines count ten_thousands 0 why }
+    ensures { (count : ℕ) → count ≤ 100 → take (length (blank_lines count ten_thousands 0 why)) bytes.new
+        ≡ blank_lines count ten_thousands 0 why }
 {
     let mut at = 0;
     for pair in 0..100 {
@@ -171,7 +175,8 @@ impl SkipBlock {
     fn put(&self, last_four: usize, bytes: &[u8], out: &mut Vec<u8>) -> Result<(), NoMemory>
         requires last_four { last_four < 10000 }
         requires same { last_four % 100 + length bytes.now ≤ 100 }
-        ensures ok { OnOk result (out.new.items ≡ out.old.items ++ skip_lines (10000 * self.now.0 + last_four) bytes.now self.now.1) }
+        ensures ok { OnOk result (out.new.items ≡ out.old.items
+            ++ skip_lines (10000 * self.now.0 + last_four) bytes.now self.now.1) }
         ensures err { OnErr result (out.new.items ≡ out.old.items) }
     {
         let start = out.len();

@@ -20,7 +20,8 @@ const NEAR_OFFSET: u64 = 10_000;
 
 const FAR_OFFSET: u64 = 10_000_000_000;
 
-/// Blocks of lines for the reasons for which many bytes are skipped one after another. They are kept from call to call.
+/// Blocks of lines for the reasons for which many bytes are skipped one after another. They are kept from call to
+/// call.
 #[derive(Drop)]
 pub struct SkipBlocks {
     not_stx: SkipBlock,
@@ -36,7 +37,8 @@ impl Model for SkipBlocks {
 
     ghost view = { λ b. tt };
 
-    ghost invariant = { λ b. (b.not_stx.1 ≡ NotStx) × (b.unknown_flag.1 ≡ UnknownFlag) × (b.unknown_id.1 ≡ UnknownId) };
+    ghost invariant = { λ b. (b.not_stx.1 ≡ NotStx) × (b.unknown_flag.1 ≡ UnknownFlag)
+        × (b.unknown_id.1 ≡ UnknownId) };
 }
 
 impl SkipBlocks {
@@ -72,7 +74,8 @@ fn put_behind<const N: usize>(
     requires room { at + 24 ≤ N }
     requires digits { 8 ≤ length skip_ending.now }
     ensures room { (at ≤ result) × (result ≤ at + 24) }
-    ensures text { take result chunk.new ≡ take at chunk.old ++ (take 6 skip_ending.now ++ byte_hex byte ++ drop 8 skip_ending.now) }
+    ensures text { take result chunk.new ≡ take at chunk.old
+        ++ (take 6 skip_ending.now ++ byte_hex byte ++ drop 8 skip_ending.now) }
 {
     let end = put_part(chunk, at, &skip_ending.bytes, skip_ending.len);
     set_two(chunk, at + 6, byte_digits(byte));
@@ -182,7 +185,8 @@ fn append_lines(
     Ok(())
 }
 
-/// Appends the lines of bytes that are skipped one after another for one reason, the first of which stands at `offset`.
+/// Appends the lines of bytes that are skipped one after another for one reason, the first of which stands at
+/// `offset`.
 pub fn put_skips(
     offset: u64,
     bytes: &[u8],

@@ -4,7 +4,8 @@ ghost use Rattle.std.specs.Fmt.{decimal};
 ghost use Rattle.field_layout.specs.Types.{element_size};
 ghost use Rattle.field_layout.specs.Reading.{word_from, words_from};
 ghost use Rattle.field_layout.specs.declared.ty.Ty.TheVariants.{U8};
-ghost use Rattle.mav_text.specs.FrameText.{number_text, char_text, chars_text, further_text, values_text, shown_text, version_text};
+ghost use Rattle.mav_text.specs.FrameText.{number_text, char_text, chars_text, further_text, values_text, shown_text};
+ghost use Rattle.mav_text.specs.FrameText.{version_text};
 
 use crate::chunk::{put_part, put_two};
 use crate::decimals::{put_long_word, put_number, put_signed, put_small, put_word};
@@ -29,7 +30,8 @@ fn put_one(chunk: &mut [u8; 2048], at: usize, ty: Ty, payload: &[u8], offset: us
     requires within { offset + element_size ty ≤ length payload.now }
     requires room { at + 25 ≤ 2048 }
     ensures index { (at ≤ result) × (result ≤ at + 4 * element_size ty) }
-    ensures text { take result chunk.new ≡ take at chunk.old ++ number_text ty (word_from payload.now offset (element_size ty)) }
+    ensures text { take result chunk.new ≡ take at chunk.old
+        ++ number_text ty (word_from payload.now offset (element_size ty)) }
 {
     match ty {
         Ty::U8 | Ty::Version | Ty::Char => put_small(chunk, at, read_byte(payload, offset)),
@@ -87,7 +89,8 @@ fn put_quoted(chunk: &mut [u8; 2048], at: usize, payload: &[u8], from: usize, co
     requires within { from + count ≤ length payload.now }
     requires room { at + 4 * count + 2 ≤ 2048 }
     ensures index { (at ≤ result) × (result ≤ at + 4 * count + 2) }
-    ensures text { take result chunk.new ≡ take at chunk.old ++ (34 ∷ chars_text (words_from payload.now from 1 count) ++ 34 ∷ []) }
+    ensures text { take result chunk.new ≡ take at chunk.old
+        ++ (34 ∷ chars_text (words_from payload.now from 1 count) ++ 34 ∷ []) }
 {
     let start = put_byte(chunk, at, b'"');
     let end = put_chars(chunk, start, payload, from, count);
@@ -131,7 +134,8 @@ fn put_further(
     requires within { from + element_size ty * count ≤ length payload.now }
     requires room { at + 5 * (element_size ty * count) + 25 ≤ 2048 }
     ensures index { (at ≤ result) × (result ≤ at + 5 * (element_size ty * count)) }
-    ensures text { take result chunk.new ≡ take at chunk.old ++ further_text ty (words_from payload.now from (element_size ty) count) }
+    ensures text { take result chunk.new ≡ take at chunk.old
+        ++ further_text ty (words_from payload.now from (element_size ty) count) }
 {
     if matches!(ty, Ty::U8) {
         return put_further_bytes(chunk, at, payload, from, count);
@@ -163,7 +167,8 @@ fn put_values(
     requires within { from + element_size ty * count ≤ length payload.now }
     requires room { at + 5 * (element_size ty * count) + 25 ≤ 2048 }
     ensures index { (at ≤ result) × (result ≤ at + 5 * (element_size ty * count)) }
-    ensures text { take result chunk.new ≡ take at chunk.old ++ values_text ty (words_from payload.now from (element_size ty) count) }
+    ensures text { take result chunk.new ≡ take at chunk.old
+        ++ values_text ty (words_from payload.now from (element_size ty) count) }
 {
     let first = put_one(chunk, at, ty, payload, from);
     put_further(chunk, first, ty, payload, from + ty.size(), count - 1)
@@ -183,7 +188,8 @@ fn put_array(
     requires within { from + element_size ty * count ≤ length payload.now }
     requires room { at + 5 * (element_size ty * count) + 26 ≤ 2048 }
     ensures index { (at ≤ result) × (result ≤ 2048) }
-    ensures text { take result chunk.new ≡ take at chunk.old ++ (91 ∷ values_text ty (words_from payload.now from (element_size ty) count) ++ 93 ∷ []) }
+    ensures text { take result chunk.new ≡ take at chunk.old
+        ++ (91 ∷ values_text ty (words_from payload.now from (element_size ty) count) ++ 93 ∷ []) }
 {
     let start = put_byte(chunk, at, b'[');
     let end = put_values(chunk, start, ty, payload, from, count);
@@ -212,7 +218,8 @@ pub(crate) fn put_value(
     requires payload { length payload.now ≤ 255 }
     requires room { at ≤ 700 }
     ensures index { (at ≤ result) × (result ≤ 2048) }
-    ensures text { take result chunk.new ≡ take at chunk.old ++ shown_text ty len (words_from payload.now offset (element_size ty) (if len == 0 then 1 else len)) }
+    ensures text { take result chunk.new ≡ take at chunk.old
+        ++ shown_text ty len (words_from payload.now offset (element_size ty) (if len == 0 then 1 else len)) }
 {
     if matches!(ty, Ty::Char) {
         return put_quoted(chunk, at, payload, offset, count_of(len));
@@ -228,7 +235,8 @@ pub(crate) fn put_value(
 pub(crate) fn put_sender(chunk: &mut [u8; 2048], at: usize, sys: u8, comp: u8, seq: u8) -> usize
     requires { at ≤ 1000 }
     ensures index { (at ≤ result) × (result ≤ at + 16) }
-    ensures text { take result chunk.new ≡ take at chunk.old ++ (32 ∷ decimal sys ++ 46 ∷ decimal comp ++ 32 ∷ 35 ∷ decimal seq) }
+    ensures text { take result chunk.new ≡ take at chunk.old
+        ++ (32 ∷ decimal sys ++ 46 ∷ decimal comp ++ 32 ∷ 35 ∷ decimal seq) }
 {
     let index = put_byte(chunk, at, b' ');
     let index = put_small(chunk, index, sys);
@@ -257,7 +265,8 @@ pub(crate) fn put_version(chunk: &mut [u8; 2048], at: usize, old: bool) -> usize
 pub(crate) fn put_block(chunk: &mut [u8; 2048], at: usize, link: u8, stamp: u64) -> usize
     requires { at ≤ 1000 }
     ensures index { (at ≤ result) × (result ≤ at + 40) }
-    ensures text { take result chunk.new ≡ take at chunk.old ++ (codes " signed " ++ decimal link ++ 32 ∷ decimal stamp) }
+    ensures text { take result chunk.new ≡ take at chunk.old
+        ++ (codes " signed " ++ decimal link ++ 32 ∷ decimal stamp) }
 {
     let index = put_part(chunk, at, b" signed ", 8);
     let index = put_small(chunk, index, link);

@@ -1,7 +1,8 @@
 -- What a node of either kind does at a call.
 use Rattle.std.specs.Prelude.{ℕ, List, [], None, Some}
 use Rattle.mav_nodes.specs.Links.{Outcome, done}
-use Rattle.mav_nodes.specs.Nodes.{DroneSide, StationSide, drone_receives, drone_beats, drone_ticks, drone_sims, station_receives, station_beats, station_ticks}
+use Rattle.mav_nodes.specs.Nodes.{DroneSide, StationSide, drone_receives, drone_beats, drone_ticks, drone_sims}
+use Rattle.mav_nodes.specs.Nodes.{station_receives, station_beats, station_ticks}
 use Rattle.node_reports.specs.Nodes.{Node, Drone, Station}
 
 abbrev pub as_drone : Outcome DroneSide → Outcome Node

@@ -1,7 +1,8 @@
 -- Frames among news.
 use Rattle.std.specs.Prelude.{Bool, true, false}
 use Rattle.mav_nodes.specs.declared.news.News.{News}
-use Rattle.mav_nodes.specs.declared.news.News.TheVariants.{Sent, Installed, Emptied, Dropped, Outcome, Command, Param, Params, Reached, Captured, File}
+use Rattle.mav_nodes.specs.declared.news.News.TheVariants.{Sent, Installed, Emptied, Dropped, Outcome, Command, Param}
+use Rattle.mav_nodes.specs.declared.news.News.TheVariants.{Params, Reached, Captured, File}
 
 abbrev pub is_frame : News → Bool
 is_frame (Sent frame message) = true

@@ -3,7 +3,8 @@
 use Rattle.std.specs.Prelude.{◌≡◌, List, [], ◌∷◌, Option, Some, None}
 use Rattle.param_proto.specs.declared.params.Param.{Param}
 use Rattle.param_proto.specs.Client.{known_values}
-use Rattle.mav_nodes.specs.News.{NodeEvent, Sends, Installs, Empties, Drops, Ends, Ends_command, Gives_param, Ends_params, Reaches, Captures, Ends_file}
+use Rattle.mav_nodes.specs.News.{NodeEvent, Sends, Installs, Empties, Drops, Ends, Ends_command, Gives_param}
+use Rattle.mav_nodes.specs.News.{Ends_params, Reaches, Captures, Ends_file}
 use Rattle.node_reports.specs.Nodes.{Node, Drone, Station}
 
 -- the values of a station's latest list, from the first up to one that it doesn't know

@@ -46,8 +46,8 @@ fn event_of<'a>(
     }
 }
 
-/// One piece of news of a node as the report says it. `number` is that of the frame, if one was sent; a list of parameters
-/// that has ended has these values.
+/// One piece of news of a node as the report says it. `number` is that of the frame, if one was sent; a list of
+/// parameters that has ended has these values.
 pub fn report_piece(
     report: &mut Report,
     name: Name,
@@ -55,7 +55,8 @@ pub fn report_piece(
     number: usize,
     piece: &News,
 ) -> Result<(), NoMemory>
-    ensures { OnOk result ((event : NodeEvent) (before : ℕ) → said_by piece.now ≡ shown event → HaveValues values.now (event ∷ [])
+    ensures { OnOk result ((event : NodeEvent) (before : ℕ) → said_by piece.now ≡ shown event
+        → HaveValues values.now (event ∷ [])
         → (is_frame piece.now ≡ true → number ≡ before + 1)
         → report.new ≡ reports report.old (reported_by name before (event ∷ []))) }
 {

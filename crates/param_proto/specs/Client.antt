@@ -1,12 +1,15 @@
--- The station's side of the parameter protocol: one read, set or list at a time, asked again until it is answered (MAVLink
--- guide, Parameter Protocol).
-use Rattle.std.specs.Prelude.{ℕ, ℤ, pos, negsuc, suc, zero, ◌+◌, ◌==◌, if◌then◌else◌, nat_lt, nat_le, Bool, true, false, is_some, List, [], ◌∷◌, length, take, replicate, Option, Some, None}
+-- The station's side of the parameter protocol: one read, set or list at a time, asked again until it is answered
+-- (MAVLink guide, Parameter Protocol).
+use Rattle.std.specs.Prelude.{ℕ, ℤ, pos, negsuc, suc, zero, ◌+◌, ◌==◌, if◌then◌else◌, nat_lt, nat_le, Bool, true}
+use Rattle.std.specs.Prelude.{false, is_some, List, [], ◌∷◌, length, take, replicate, Option, Some, None}
 use Rattle.mav_names.specs.declared.names.Name.{Name}
 use Rattle.mav_names.specs.declared.names.Stream.{Stream}
 use Rattle.mav_names.specs.Addresses.{same_stream}
 use Rattle.mav_messages.specs.declared.params.ParamValue.{ParamValue}
 use Rattle.mav_messages.specs.declared.messages.Message.{Message}
-use Rattle.mav_messages.specs.declared.messages.Message.TheVariants.{ParamRequestRead as Requests, ParamRequestList as Lists, ParamSet as Sets, ParamValue as Tells}
+use Rattle.mav_messages.specs.declared.messages.Message.TheVariants.{ParamRequestRead as Requests}
+use Rattle.mav_messages.specs.declared.messages.Message.TheVariants.{ParamRequestList as Lists, ParamSet as Sets}
+use Rattle.mav_messages.specs.declared.messages.Message.TheVariants.{ParamValue as Tells}
 use Rattle.param_proto.specs.declared.params.Param.{Param}
 use Rattle.param_proto.specs.Params.{same_id}
 
@@ -80,7 +83,13 @@ read_message drone id index =
 
 abbrev pub set_message : Stream → Param → Message
 set_message drone p =
-    Sets (record { target_system = drone.sys; target_component = drone.comp; param_id = p.id; param_value = p.word; param_type = p.ty })
+    Sets (record {
+      target_system = drone.sys;
+      target_component = drone.comp;
+      param_id = p.id;
+      param_value = p.word;
+      param_type = p.ty;
+    })
 
 abbrev pub list_message : Stream → Message
 list_message drone = Lists (record { target_system = drone.sys; target_component = drone.comp })
@@ -162,7 +171,8 @@ abbrev pub value_comes : ClientState → Operation → ParamValue → ClientStep
 value_comes c o m =
     if m.param_count == 0 then listed c o 0 c.values
     else if nat_lt m.param_index m.param_count
-    then listed c (heard_at o (was_taken c.values m.param_index)) m.param_count (with_value c.values m.param_index (param_in m))
+    then listed c (heard_at o (was_taken c.values m.param_index)) m.param_count
+    (with_value c.values m.param_index (param_in m))
     else rests c
 
 abbrev pub answered : ClientState → Operation → Task → ParamValue → ClientStep

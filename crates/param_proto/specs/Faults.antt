@@ -7,7 +7,8 @@ use Rattle.param_proto.specs.Server.{most_params, untyped, twice_named}
 
 -- too many, or the first with a type that is none
 abbrev pub shape_fault : List Param → Option ParamFault
-shape_fault params = if nat_lt most_params (length params) then Some (TooMany (length params)) else option_map (λ at. BadType at) (position untyped params)
+shape_fault params = if nat_lt most_params (length params) then Some (TooMany (length params))
+    else option_map (λ at. BadType at) (position untyped params)
 
 -- the first with the id of an earlier one
 abbrev pub name_fault : List Param → Option ParamFault

@@ -23,7 +23,8 @@ after_all c (e ∷ es) = after_all (after c e) es
 
 -- a value of the drone for an index, which is below the value's own count
 abbrev pub is_for_index : Stream → ℕ → Stream → ParamValue → Bool
-is_for_index drone index from m = same_stream drone from && (nat_lt m.param_index m.param_count && (m.param_index == index))
+is_for_index drone index from m = same_stream drone from
+    && (nat_lt m.param_index m.param_count && (m.param_index == index))
 
 abbrev pub newer : Stream → ℕ → Option Param → ListEvent → Option Param
 newer drone index before (Hears from (Tells m)) = if is_for_index drone index from m then Some (param_in m) else before

@@ -16,4 +16,5 @@ IsIndex pairs params = (id : List ℕ) → place_in pairs id ≡ place_of params
 
 -- the pairs after one is added
 abbrev pub HasAdded : List (List ℕ × ℕ) → List (List ℕ × ℕ) → List ℕ → ℕ → Type 0
-HasAdded before after id index = (other : List ℕ) → lookup (bytes_eq other) after ≡ cond (bytes_eq id other) (Some index) (lookup (bytes_eq other) before)
+HasAdded before after id index = (other : List ℕ)
+    → lookup (bytes_eq other) after ≡ cond (bytes_eq id other) (Some index) (lookup (bytes_eq other) before)

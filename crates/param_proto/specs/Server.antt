@@ -1,13 +1,16 @@
--- The drone's side of the parameter protocol: a list of parameters with distinct ids, read and set by messages (MAVLink
--- guide, Parameter Protocol).
-use Rattle.std.specs.Prelude.{ℕ, ℤ, pos, negsuc, zero, suc, ◌+◌, ◌==◌, if◌then◌else◌, Bool, not, List, [], ◌∷◌, ◌++◌, length, map, position, slice_get, slice_set, Option, Some, None}
+-- The drone's side of the parameter protocol: a list of parameters with distinct ids, read and set by messages
+-- (MAVLink guide, Parameter Protocol).
+use Rattle.std.specs.Prelude.{ℕ, ℤ, pos, negsuc, zero, suc, ◌+◌, ◌==◌, if◌then◌else◌, Bool, not, List, [], ◌∷◌, ◌++◌}
+use Rattle.std.specs.Prelude.{length, map, position, slice_get, slice_set, Option, Some, None}
 use Rattle.std.specs.List.{list_any}
 use Rattle.mav_names.specs.declared.names.Name.{Name}
 use Rattle.mav_names.specs.Addresses.{is_for_node}
 use Rattle.mav_messages.specs.declared.params.ParamRequestRead.{ParamRequestRead}
 use Rattle.mav_messages.specs.declared.params.ParamSet.{ParamSet}
 use Rattle.mav_messages.specs.declared.messages.Message.{Message}
-use Rattle.mav_messages.specs.declared.messages.Message.TheVariants.{ParamRequestRead as Requests, ParamRequestList as Lists, ParamSet as Sets, ParamValue as Tells}
+use Rattle.mav_messages.specs.declared.messages.Message.TheVariants.{ParamRequestRead as Requests}
+use Rattle.mav_messages.specs.declared.messages.Message.TheVariants.{ParamRequestList as Lists, ParamSet as Sets}
+use Rattle.mav_messages.specs.declared.messages.Message.TheVariants.{ParamValue as Tells}
 use Rattle.param_proto.specs.declared.params.Param.{Param}
 use Rattle.param_proto.specs.Params.{same_id, is_type, narrowed, normal}
 
@@ -29,7 +32,8 @@ untyped p = not (is_type p.ty)
 
 abbrev pub twice_from : List Param → ℕ → List Param → Option ℕ
 twice_from earlier at [] = None
-twice_from earlier at (p ∷ ps) = if list_any (has_id p.id) earlier then Some at else twice_from (earlier ++ p ∷ []) (at + 1) ps
+twice_from earlier at (p ∷ ps) = if list_any (has_id p.id) earlier then Some at
+    else twice_from (earlier ++ p ∷ []) (at + 1) ps
 
 abbrev pub twice_named : List Param → Option ℕ
 twice_named params = twice_from [] 0 params
@@ -40,7 +44,13 @@ new_server params = record { params = map normal params; waiting = [] }
 -- PARAM_VALUE of a parameter: its index, and how many there are
 abbrev pub value_message : ℕ → ℕ → Param → Message
 value_message count index p =
-    Tells (record { param_id = p.id; param_value = p.word; param_type = p.ty; param_count = count; param_index = index })
+    Tells (record {
+      param_id = p.id;
+      param_value = p.word;
+      param_type = p.ty;
+      param_count = count;
+      param_index = index;
+    })
 
 abbrev pub values_from : ℕ → ℕ → List Param → List Message
 values_from count index [] = []
@@ -89,11 +99,14 @@ if_for for_me s t = if for_me then t else serves s.params []
 -- a message; answers to an earlier one that still wait are dropped
 abbrev pub server_step : ServerState → Name → Message → ServerState
 server_step s me (Requests m) =
-    if_for (is_for_node me (record { sys = m.target_system; comp = m.target_component })) s (serves s.params (asked_for s.params m m.param_index))
+    if_for (is_for_node me (record { sys = m.target_system; comp = m.target_component })) s
+    (serves s.params (asked_for s.params m m.param_index))
 server_step s me (Lists m) =
-    if_for (is_for_node me (record { sys = m.target_system; comp = m.target_component })) s (serves s.params (values_from (length s.params) 0 s.params))
+    if_for (is_for_node me (record { sys = m.target_system; comp = m.target_component })) s
+    (serves s.params (values_from (length s.params) 0 s.params))
 server_step s me (Sets m) =
-    if_for (is_for_node me (record { sys = m.target_system; comp = m.target_component })) s (value_set s m (place_of s.params m.param_id))
+    if_for (is_for_node me (record { sys = m.target_system; comp = m.target_component })) s
+    (value_set s m (place_of s.params m.param_id))
 server_step s me _ = serves s.params []
 
 -- the next answer that waits is taken

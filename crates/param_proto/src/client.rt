@@ -1,6 +1,7 @@
 // The station's side of the parameter protocol.
 ghost use Rattle.std.specs.Prelude.{◌≡◌, ◌<◌, IsTrue, Some, None, is_some, IfOk, OnOk, OnErr};
-ghost use Rattle.param_proto.specs.Client.{new_client, begun, reads, sets, lists, listed, one_comes, value_comes, client_step, client_tick, known_values, request_of};
+ghost use Rattle.param_proto.specs.Client.{new_client, begun, reads, sets, lists, listed, one_comes, value_comes};
+ghost use Rattle.param_proto.specs.Client.{client_step, client_tick, known_values, request_of};
 ghost use Rattle.param_proto.specs.Views.{task_view, operation_view};
 ghost use Rattle.param_proto.specs.Ends.{end_told, tick_told};
 
@@ -17,8 +18,8 @@ use std::marker::Model;
 // The ticks in a row after which an operation is given up.
 const IDLE_LIMIT: u8 = 5;
 
-/// A client of one drone's server at a time: it reads or sets one parameter, or lists all. What it asks is asked again at
-/// each tick that brought nothing, up to a limit (MAVLink guide, Parameter Protocol).
+/// A client of one drone's server at a time: it reads or sets one parameter, or lists all. What it asks is asked again
+/// at each tick that brought nothing, up to a limit (MAVLink guide, Parameter Protocol).
 #[derive(Drop)]
 pub struct ParamClient {
     me: Name,

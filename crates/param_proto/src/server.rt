@@ -2,7 +2,9 @@
 ghost use Rattle.std.specs.Prelude.{◌≡◌, ◌<◌, [], length, map, position, Some, None, IfOk, IfErr, OnOk};
 ghost use Rattle.mav_names.specs.Addresses.{is_for_node};
 ghost use Rattle.param_proto.specs.Params.{normal};
-ghost use Rattle.param_proto.specs.Server.{untyped, new_server, server_step, taken_from, next_answer, word_in, place_of, params_set, value_at, values_from, asked_for, value_set, serves, with_word};
+ghost use Rattle.param_proto.specs.Server.{untyped, new_server, server_step, taken_from, next_answer, word_in};
+ghost use Rattle.param_proto.specs.Server.{place_of, params_set, value_at, values_from, asked_for, value_set, serves};
+ghost use Rattle.param_proto.specs.Server.{with_word};
 ghost use Rattle.param_proto.specs.Faults.{shape_fault, fault_of, IsFault};
 ghost use Rattle.param_proto.specs.Places.{IsIndex};
 
@@ -19,8 +21,8 @@ use std::marker::Model;
 const MOST_PARAMS: usize = 1_000;
 
 /// A list of parameters with distinct ids, and the answers to the latest message that weren't taken yet. Its types are
-/// the integers of at most 32 bits, 1 to 6, and REAL32, 9 (MAVLink common messages, MAV_PARAM_TYPE). The answers are the
-/// values from one index up to another.
+/// the integers of at most 32 bits, 1 to 6, and REAL32, 9 (MAVLink common messages, MAV_PARAM_TYPE). The answers are
+/// the values from one index up to another.
 #[derive(Drop)]
 pub struct ParamServer {
     params: Vec<Param>,

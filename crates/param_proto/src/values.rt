@@ -1,5 +1,6 @@
 // The values of a client's latest list.
-ghost use Rattle.std.specs.Prelude.{◌≡◌, ◌-◌, ◌<◌, ◌≤◌, ◌++◌, ◌∷◌, [], length, take, replicate, slice_set, Some, None, IfOk};
+ghost use Rattle.std.specs.Prelude.{◌≡◌, ◌-◌, ◌<◌, ◌≤◌, ◌++◌, ◌∷◌, [], length, take, replicate, slice_set, Some, None};
+ghost use Rattle.std.specs.Prelude.{IfOk};
 ghost use Rattle.param_proto.specs.Client.{known_values, with_value, was_taken, asks_all};
 ghost use Rattle.param_proto.specs.Views.{leading};
 
@@ -38,7 +39,8 @@ impl Model for Values {
 
     ghost view = { λ v. values_view v.taken.items v.params.items };
 
-    ghost invariant = { λ v. (length v.taken.items ≡ length v.params.items) × (v.known ≡ leading v.taken.items) × (65535 ≤ vec_capacity v.params) × (65535 ≤ vec_capacity v.taken) };
+    ghost invariant = { λ v. (length v.taken.items ≡ length v.params.items) × (v.known ≡ leading v.taken.items)
+        × (65535 ≤ vec_capacity v.params) × (65535 ≤ vec_capacity v.taken) };
 }
 
 // How many are true, one after another from the first on. So many as `from` are.

@@ -12,7 +12,8 @@ word n = to_le_bytes w32 n
 unfoldable pub item_bytes : Item → List ℕ
 item_bytes item =
     (item.frame ∷ []) ++ to_le_bytes w16 item.command ++ (item.current ∷ item.autocontinue ∷ [])
-    ++ word (slice_index item.p 0) ++ word (slice_index item.p 1) ++ word (slice_index item.p 2) ++ word (slice_index item.p 3)
+    ++ word (slice_index item.p 0) ++ word (slice_index item.p 1) ++ word (slice_index item.p 2)
+    ++ word (slice_index item.p 3)
     ++ word (cast_unsigned w32 item.x) ++ word (cast_unsigned w32 item.y) ++ word item.z
 
 -- a plan: how many items it has, and its items

@@ -19,7 +19,11 @@ impl Model for Kept {
 
     ghost Value = { KeptPlans };
 
-    ghost view = { λ k. record { low = k.floor; plans = record { mission = items_of k.mission; fence = items_of k.fence; rally = items_of k.rally } } };
+    ghost view = { λ k. record {
+      low = k.floor;
+      plans = record { mission = items_of k.mission; fence = items_of k.fence; rally = items_of k.rally };
+    } };
 
-    ghost invariant = { λ k. (k.floor < 2 ^ 48) × AreHoldable (record { mission = items_of k.mission; fence = items_of k.fence; rally = items_of k.rally }) };
+    ghost invariant = { λ k. (k.floor < 2 ^ 48)
+        × AreHoldable (record { mission = items_of k.mission; fence = items_of k.fence; rally = items_of k.rally }) };
 }

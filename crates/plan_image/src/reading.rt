@@ -1,5 +1,6 @@
 // A stored image as plans.
-ghost use Rattle.std.specs.Prelude.{◌≡◌, ◌+◌, ◌*◌, ◌<◌, ◌≤◌, ◌^◌, ◌∷◌, ◌++◌, ℕ, List, length, slice_range, flat_map, IfOk, IfSome, IsNone, IsErrOf};
+ghost use Rattle.std.specs.Prelude.{◌≡◌, ◌+◌, ◌*◌, ◌<◌, ◌≤◌, ◌^◌, ◌∷◌, ◌++◌, ℕ, List, length, slice_range, flat_map};
+ghost use Rattle.std.specs.Prelude.{IfOk, IfSome, IsNone, IsErrOf};
 ghost use Rattle.std.specs.Int.{w16, w32, w64, to_le_bytes};
 ghost use Rattle.plan_items.specs.Kinds.{number_of};
 ghost use Rattle.plan_items.specs.Plans.{items_of};
@@ -94,7 +95,8 @@ fn take_plan(alloc: Global, kind: PlanKind, bytes: &[u8]) -> Result<(Plan, &[u8]
     ensures bytes { IfOk result (λ taken. bytes.now ≡ plan_bytes (items_of taken.0) ++ taken.1.now) }
     ensures holdable { IfOk result (λ taken. IsHoldable (number_of kind) (items_of taken.0)) }
     ensures range { IfOk result (λ taken. InRange (items_of taken.0)) }
-    ensures bad { IsErrOf result KeptFault.BadKept → (items : List Item) → (rest : List ℕ) → IsHoldable (number_of kind) items → InRange items → ¬ (bytes.now ≡ plan_bytes items ++ rest) }
+    ensures bad { IsErrOf result KeptFault.BadKept → (items : List Item) → (rest : List ℕ)
+        → IsHoldable (number_of kind) items → InRange items → ¬ (bytes.now ≡ plan_bytes items ++ rest) }
 {
     if bytes.len() < 2 {
         return Err(KeptFault::BadKept);
@@ -115,8 +117,10 @@ fn take_plan(alloc: Global, kind: PlanKind, bytes: &[u8]) -> Result<(Plan, &[u8]
 
 // The persisted timestamp low bound, and the bytes after it.
 fn take_header(sys: u8, bytes: &[u8]) -> Option<(u64, &[u8])>
-    ensures some { IfSome result (λ taken. (taken.0 < 2 ^ 48) × (bytes.now ≡ (sys ∷ to_le_bytes w64 taken.0) ++ taken.1.now)) }
-    ensures none { IsNone result → (low : ℕ) → (rest : List ℕ) → low < 2 ^ 48 → ¬ (bytes.now ≡ (sys ∷ to_le_bytes w64 low) ++ rest) }
+    ensures some { IfSome result (λ taken. (taken.0 < 2 ^ 48)
+        × (bytes.now ≡ (sys ∷ to_le_bytes w64 taken.0) ++ taken.1.now)) }
+    ensures none { IsNone result → (low : ℕ) → (rest : List ℕ) → low < 2 ^ 48
+        → ¬ (bytes.now ≡ (sys ∷ to_le_bytes w64 low) ++ rest) }
 {
     if bytes.len() < HEADER_BYTES || bytes[0] != sys {
         return None;

@@ -122,7 +122,8 @@ pub fn write_image(
     requires mission { IsHoldable 0 mission.now }
     requires fence { IsHoldable 1 fence.now }
     requires rally { IsHoldable 2 rally.now }
-    ensures image { IfOk result (λ bytes. IsImageOf sys floor (record { mission = mission.now; fence = fence.now; rally = rally.now }) bytes.items) }
+    ensures image { IfOk result (λ bytes. IsImageOf sys floor
+        (record { mission = mission.now; fence = fence.now; rally = rally.now }) bytes.items) }
     ensures short { IfOk result (λ bytes. vec_len bytes ≤ most_bytes) }
 {
     let len = FIXED_BYTES + ITEM_BYTES * (mission.len() + fence.len() + rally.len());

@@ -1,12 +1,15 @@
 -- Which items and plans are valid.
-use Rattle.std.specs.Prelude.{◌≡◌, ℕ, zero, suc, ◌-◌, ◌<◌, ◌≤◌, ◌==◌, nat_le, Bool, true, false, not, ◌&&◌, ◌||◌, if◌then◌else◌, ℤ, pos, neg_ℤ, int_le, List, [], ◌∷◌, length, take, slice_index, All, Option, Some, None, is_some, unwrap_or}
+use Rattle.std.specs.Prelude.{◌≡◌, ℕ, zero, suc, ◌-◌, ◌<◌, ◌≤◌, ◌==◌, nat_le, Bool, true, false, not, ◌&&◌, ◌||◌}
+use Rattle.std.specs.Prelude.{if◌then◌else◌, ℤ, pos, neg_ℤ, int_le, List, [], ◌∷◌, length, take, slice_index, All}
+use Rattle.std.specs.Prelude.{Option, Some, None, is_some, unwrap_or}
 use Rattle.std.specs.Option.{option_or}
 use Rattle.std.specs.List.{list_all}
 use Rattle.plan_items.specs.Kinds.{limit_of}
 use Rattle.plan_items.specs.Words.{word_number}
 use Rattle.plan_items.specs.declared.items.Item.{Item}
 use Rattle.plan_items.specs.declared.faults.PlanFault.{PlanFault}
-use Rattle.plan_items.specs.declared.faults.PlanFault.TheVariants.{UnsupportedFrame, Unsupported, InvalidX, InvalidY, InvalidParam1, Invalid}
+use Rattle.plan_items.specs.declared.faults.PlanFault.TheVariants.{UnsupportedFrame, Unsupported, InvalidX, InvalidY}
+use Rattle.plan_items.specs.declared.faults.PlanFault.TheVariants.{InvalidParam1, Invalid}
 
 -- the frames of items that have a location: MAV_FRAME_GLOBAL, GLOBAL_RELATIVE_ALT, GLOBAL_INT,
 -- GLOBAL_RELATIVE_ALT_INT

@@ -4,7 +4,9 @@ ghost use Rattle.std.specs.Result.{result_err};
 ghost use Rattle.std.specs.List.{list_all};
 ghost use Rattle.plan_items.specs.Kinds.{number_of};
 ghost use Rattle.plan_items.specs.Plans.{items_of};
-ghost use Rattle.plan_items.specs.Validation.{is_global, goes_to_place, is_frame_supported, is_vertex, is_command_supported, is_in_range, vertex_count, has_count, item_fault, group_len_of, is_like, is_grouped, whole_fault, first_fault, plan_fault};
+ghost use Rattle.plan_items.specs.Validation.{is_global, goes_to_place, is_frame_supported, is_vertex};
+ghost use Rattle.plan_items.specs.Validation.{is_command_supported, is_in_range, vertex_count, has_count, item_fault};
+ghost use Rattle.plan_items.specs.Validation.{group_len_of, is_like, is_grouped, whole_fault, first_fault, plan_fault};
 
 use crate::{Item, MavCommand, MavFrame, Plan, PlanFault, PlanKind, word_small};
 
@@ -167,7 +169,8 @@ fn is_whole(items: &[Item]) -> bool
 // Whether the items and one more after them are a group of this length.
 fn is_group_with(first: &Item, items: &[Item], last: &Item, len: usize) -> bool
     requires { length items.now < len }
-    ensures { result ≡ ((length items.now + 1 == len) && list_all (is_like first.now) items.now && is_like first.now last.now) }
+    ensures { result ≡ ((length items.now + 1 == len) && list_all (is_like first.now) items.now
+        && is_like first.now last.now) }
 {
     if items.len() + 1 != len || !is_one_group(first, items) {
         return false;

@@ -14,6 +14,7 @@ pub fn every_fresh_drone()
 
 /// At each plan message in range, whether its store keeps new plans or not, and at each tick.
 pub fn every_drone()
-    ensures step { (keeps : Bool) → (d : DroneState) → (s : Stream) → (m : PlanMsg) → DroneInRange d → StreamInRange s → InRange m → DroneStepInRange (drone_step keeps d s m) }
+    ensures step { (keeps : Bool) → (d : DroneState) → (s : Stream) → (m : PlanMsg) → DroneInRange d → StreamInRange s
+        → InRange m → DroneStepInRange (drone_step keeps d s m) }
     ensures tick { (d : DroneState) → DroneInRange d → DroneTickInRange (drone_tick d) }
 {}

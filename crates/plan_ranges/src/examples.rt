@@ -5,14 +5,18 @@ ghost use Rattle.plan_upload.specs.Addresses.{node_of, everyone};
 ghost use Rattle.plan_upload.specs.Drone.{drone_step};
 ghost use Rattle.plan_upload.specs.Station.{station_step, station_cancel};
 ghost use Rattle.plan_ranges.specs.Ranges.{InRange, DroneInRange, StationInRange};
-ghost use Rattle.plan_ranges.specs.Examples.{drone_255, station_254, widest_item, widest_message, uploading_drone, uploading_station};
+ghost use Rattle.plan_ranges.specs.Examples.{drone_255, station_254, widest_item, widest_message, uploading_drone};
+ghost use Rattle.plan_ranges.specs.Examples.{uploading_station};
 
 /// By computation.
 pub fn small_ranges()
     ensures message { InRange widest_message }
     ensures drone { DroneInRange uploading_drone }
     ensures station { StationInRange uploading_station }
-    ensures asks_again { (drone_step true uploading_drone station_254 widest_message).answer ≡ Some (Request (node_of station_254) 1 0) }
-    ensures gives { (station_step uploading_station drone_255 (Request (node_of station_254) 1 0)).answer ≡ Some (Give (node_of drone_255) 1 0 widest_item) }
-    ensures last_ping { (station_cancel uploading_station).answer ≡ Some (Ping everyone 18446744073709551615 4294967295) }
+    ensures asks_again { (drone_step true uploading_drone station_254 widest_message).answer
+        ≡ Some (Request (node_of station_254) 1 0) }
+    ensures gives { (station_step uploading_station drone_255 (Request (node_of station_254) 1 0)).answer
+        ≡ Some (Give (node_of drone_255) 1 0 widest_item) }
+    ensures last_ping { (station_cancel uploading_station).answer
+        ≡ Some (Ping everyone 18446744073709551615 4294967295) }
 {}

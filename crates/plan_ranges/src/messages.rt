@@ -15,19 +15,22 @@ ghost use Rattle.plan_ranges.specs.Ranges.{InRange, SignsFit, HeartbeatInRange};
 /// A plan message in range fits the fields of the message that carries it, and is what that message
 /// carries; the coordinates of an item come back from the words of their bits.
 pub fn every_message()
-    ensures fits { (m : PlanMsg) → InRange m → FitsLayout (definition_of (message_of_plan m)) (values_of (message_of_plan m)) }
+    ensures fits { (m : PlanMsg) → InRange m
+        → FitsLayout (definition_of (message_of_plan m)) (values_of (message_of_plan m)) }
     ensures carried { (m : PlanMsg) → InRange m → plan_of (message_of_plan m) ≡ Some m }
     ensures signs { (m : PlanMsg) → InRange m → SignsFit m }
 {}
 
 /// And what a message carries whose values fit its fields is in range, so that no range is narrower than needed.
 pub fn every_reading()
-    ensures { (message : Message) → FitsLayout (definition_of message) (values_of message) → IfSome (plan_of message) SignsFit → IfSome (plan_of message) InRange }
+    ensures { (message : Message) → FitsLayout (definition_of message) (values_of message)
+        → IfSome (plan_of message) SignsFit → IfSome (plan_of message) InRange }
 {}
 
 /// A HEARTBEAT in range fits its fields.
 pub fn every_heartbeat()
-    ensures { (m : Heartbeat) → HeartbeatInRange m → FitsLayout (definition_of (CarriesHeartbeat m)) (values_of (CarriesHeartbeat m)) }
+    ensures { (m : Heartbeat) → HeartbeatInRange m
+        → FitsLayout (definition_of (CarriesHeartbeat m)) (values_of (CarriesHeartbeat m)) }
 {}
 
 /// The numbers of kinds are in range, also that of all kinds.

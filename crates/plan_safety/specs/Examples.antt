@@ -4,7 +4,8 @@ use Rattle.mav_names.specs.declared.names.Stream.{Stream}
 use Rattle.plan_items.specs.declared.items.Item.{Item}
 use Rattle.plan_items.specs.declared.kinds.PlanKind.TheVariants.{Mission}
 use Rattle.plan_upload.specs.Addresses.{same_stream}
-use Rattle.plan_safety.specs.World.{Nodes, World, Event, Begins, Gets, Cancels, To_drone, To_station, Station_waits, Restarts, first_world}
+use Rattle.plan_safety.specs.World.{Nodes, World, Event, Begins, Gets, Cancels, To_drone, To_station, Station_waits}
+use Rattle.plan_safety.specs.World.{Restarts, first_world}
 
 -- a drone and two stations
 abbrev pub drone_7 : Stream
@@ -17,7 +18,11 @@ abbrev pub station_b : Stream
 station_b = record { sys = 254; comp = 190; link = 0 }
 
 abbrev pub small_fleet : Nodes
-small_fleet = record { is_drone = λ n. same_stream n drone_7; is_station = λ n. same_stream n station_a || same_stream n station_b }
+small_fleet = record {
+  is_drone = λ n. same_stream n drone_7;
+  is_station = λ n. same_stream n station_a
+      || same_stream n station_b;
+}
 
 -- both stations start with the PING numbers up to 4 used
 abbrev pub small_start : World
@@ -25,7 +30,16 @@ small_start = first_world (record { boot = λ s. 1; pings = λ s. 4 })
 
 -- a waypoint at this altitude word, in the frame GLOBAL_INT
 abbrev pub waypoint : ℕ → Item
-waypoint z = record { frame = 5; command = 16; current = 0; autocontinue = 1; p = 0 ∷ 0 ∷ 0 ∷ 0 ∷ []; x = pos 0; y = pos 0; z = z }
+waypoint z = record {
+  frame = 5;
+  command = 16;
+  current = 0;
+  autocontinue = 1;
+  p = 0 ∷ 0 ∷ 0 ∷ 0 ∷ [];
+  x = pos 0;
+  y = pos 0;
+  z = z;
+}
 
 abbrev pub two_waypoints : List Item
 two_waypoints = waypoint 1 ∷ waypoint 2 ∷ []
@@ -44,7 +58,8 @@ resynchronisation station = exchange station ++ exchange station
 -- an upload whose last item has just been delivered: its acknowledgement is on its way
 abbrev pub upload_of_two : Stream → List Event
 upload_of_two station =
-    Begins station drone_7 Mission two_waypoints ∷ resynchronisation station ++ exchange station ++ exchange station ++ To_drone 0 drone_7 true ∷ []
+    Begins station drone_7 Mission two_waypoints ∷ resynchronisation station ++ exchange station ++ exchange station
+    ++ To_drone 0 drone_7 true ∷ []
 
 -- one whose last item is still on its way
 abbrev pub upload_nearly : Stream → List Event
@@ -57,7 +72,8 @@ upload_reported station = upload_of_two station ++ To_station 0 station ∷ []
 
 -- the drone starts again with a low bound of 50, the station's clock passes that, and it resynchronises
 abbrev pub restart_and_cancel : Stream → List Event
-restart_and_cancel station = Restarts drone_7 50 ∷ Station_waits station 60 ∷ Cancels station ∷ resynchronisation station
+restart_and_cancel station = Restarts drone_7 50 ∷ Station_waits station 60 ∷ Cancels station
+    ∷ resynchronisation station
 
 -- a download of the two waypoints
 abbrev pub download_of_two : Stream → List Event
@@ -71,7 +87,8 @@ upload_of_one station =
 
 -- an upload of a station that is synchronised already
 abbrev pub upload_again : Stream → List Event
-upload_again station = Begins station drone_7 Mission two_waypoints ∷ exchange station ++ exchange station ++ exchange station
+upload_again station = Begins station drone_7 Mission two_waypoints ∷ exchange station ++ exchange station
+    ++ exchange station
 
 -- the first station uploads, the second replaces that plan, and the first uploads again
 abbrev pub two_stations : List Event

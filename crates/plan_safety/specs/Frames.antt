@@ -12,9 +12,12 @@ pub record Frame : Type 0 where
 -- among these frames there is one of the stream with this message, at that timestamp or a later one
 abbrev pub Said : List Frame → Stream → ℕ → PlanMsg → Type 0
 Said [] stream since m = ⊥
-Said (f ∷ fs) stream since m = ((f.from ≡ stream) × (since ≤ f.timestamp) × (f.message ≡ Some m)) ⊎ Said fs stream since m
+Said (f ∷ fs) stream since m = ((f.from ≡ stream) × (since ≤ f.timestamp) × (f.message ≡ Some m))
+    ⊎ Said fs stream since m
 
--- among these frames, the newest first, there is one of the stream with this message, and that holds of those sent before it
+-- among these frames, the newest first, there is one of the stream with this message, and that holds of those sent
+-- before it
 abbrev pub SaidAfter : (List Frame → Type 0) → List Frame → Stream → PlanMsg → Type 0
 SaidAfter Before [] stream m = ⊥
-SaidAfter Before (f ∷ fs) stream m = ((f.from ≡ stream) × (f.message ≡ Some m) × Before fs) ⊎ SaidAfter Before fs stream m
+SaidAfter Before (f ∷ fs) stream m = ((f.from ≡ stream) × (f.message ≡ Some m) × Before fs)
+    ⊎ SaidAfter Before fs stream m

@@ -1,12 +1,16 @@
 -- What the abstract mission store went through, and what that says of each upload.
-use Rattle.std.specs.Prelude.{ℕ, ◌+◌, ◌≡◌, ◌≢◌, ◌<◌, ◌⊎◌, ◌==◌, ◌&&◌, Bool, true, false, if◌then◌else◌, List, [], ◌∷◌, Some}
+use Rattle.std.specs.Prelude.{ℕ, ◌+◌, ◌≡◌, ◌≢◌, ◌<◌, ◌⊎◌, ◌==◌, ◌&&◌, Bool, true, false, if◌then◌else◌, List, [], ◌∷◌}
+use Rattle.std.specs.Prelude.{Some}
 use Rattle.mav_names.specs.declared.names.Stream.{Stream}
 use Rattle.plan_items.specs.declared.items.Item.{Item}
 use Rattle.plan_upload.specs.Addresses.{same_stream}
 use Rattle.plan_upload.specs.Plans.{every_kind}
-use Rattle.plan_upload.specs.Station.{Told, Told_installed, Told_not_installed, Told_unknown, Told_cleared, Told_got, Told_ended}
+use Rattle.plan_upload.specs.Station.{Told, Told_installed, Told_not_installed, Told_unknown, Told_cleared, Told_got}
+use Rattle.plan_upload.specs.Station.{Told_ended}
 use Rattle.plan_safety.specs.Frames.{Frame}
-use Rattle.plan_safety.specs.Store.{Store, StoreEvent, Upload_begun, Installed, Clear_begun, Cleared, Get_begun, Shown, Cancelled, Ended, Restarted, Opening, FullySent, FinalSent, CancelSent, AnsweredLast, A_clear, Acked, RefusedWith, TooMany, Needs, does, first_store}
+use Rattle.plan_safety.specs.Store.{Store, StoreEvent, Upload_begun, Installed, Clear_begun, Cleared, Get_begun, Shown}
+use Rattle.plan_safety.specs.Store.{Cancelled, Ended, Restarted, Opening, FullySent, FinalSent, CancelSent}
+use Rattle.plan_safety.specs.Store.{AnsweredLast, A_clear, Acked, RefusedWith, TooMany, Needs, does, first_store}
 use Rattle.plan_safety.specs.World.{Nodes, World, Event, happens}
 
 -- an event, and the frames sent by then
@@ -111,22 +115,28 @@ uploads (x ∷ h) s = if begins_upload x.event s then uploads h s + 1 else uploa
 -- how many events of a kind there were of the station while its upload `number` was its latest
 abbrev pub tally : (StoreEvent → Stream → Bool) → List Step → Stream → ℕ → ℕ
 tally is [] s number = 0
-tally is (x ∷ h) s number = if is x.event s && (uploads h s == number) then tally is h s number + 1 else tally is h s number
+tally is (x ∷ h) s number = if is x.event s && (uploads h s == number) then tally is h s number + 1
+    else tally is h s number
 
 -- the station's upload with this number was begun for this drone, kind and plan
 abbrev pub BegunWith : StoreEvent → Stream → Stream → ℕ → List Item → Type 0
-BegunWith event s drone kind plan = (since : ℕ) × (drone_since : ℕ) × (event ≡ Upload_begun s drone kind plan since drone_since)
+BegunWith event s drone kind plan = (since : ℕ) × (drone_since : ℕ)
+    × (event ≡ Upload_begun s drone kind plan since drone_since)
 
 abbrev pub Uploaded : List Step → Stream → ℕ → Stream → ℕ → List Item → Type 0
 Uploaded [] s number drone kind plan = ⊥
-Uploaded (x ∷ h) s number drone kind plan = (BegunWith x.event s drone kind plan × (uploads h s + 1 ≡ number)) ⊎ Uploaded h s number drone kind plan
+Uploaded (x ∷ h) s number drone kind plan = (BegunWith x.event s drone kind plan × (uploads h s + 1 ≡ number))
+    ⊎ Uploaded h s number drone kind plan
 
 -- it is empty, or exactly the plan of one upload for that drone and kind, which was installed
 abbrev pub IsHeld : List Step → Stream → ℕ → List Item → Type 0
-IsHeld h drone kind plan = (plan ≡ []) ⊎ ((s : Stream) × (number : ℕ) × Uploaded h s number drone kind plan × (0 < tally installs h s number))
+IsHeld h drone kind plan = (plan ≡ []) ⊎ ((s : Stream) × (number : ℕ) × Uploaded h s number drone kind plan
+    × (0 < tally installs h s number))
 
--- an installation: of the station's latest upload, fully transmitted, not installed and not reported as "not installed" before
-pub record Installation (h : List Step) (sent : List Frame) (s drone : Stream) (kind : ℕ) (plan : List Item) : Type 0 where
+-- an installation: of the station's latest upload, fully transmitted, not installed and not reported as "not
+-- installed" before
+pub record Installation (h : List Step) (sent : List Frame) (s drone : Stream) (kind : ℕ)
+    (plan : List Item) : Type 0 where
   pub latest : Uploaded h s (uploads h s) drone kind plan
   pub fully_sent : FullySent sent s ((store_of h).transaction s)
   pub not_before : tally installs h s (uploads h s) ≡ 0
@@ -135,7 +145,8 @@ pub record Installation (h : List Step) (sent : List Frame) (s drone : Stream) (
 -- the drone has started again since the station's latest upload began
 abbrev pub RestartedSince : List Step → Stream → Stream → Type 0
 RestartedSince [] s drone = ⊥
-RestartedSince (x ∷ h) s drone = (x.event ≡ Restarted drone) ⊎ ((begins_upload x.event s ≡ false) × RestartedSince h s drone)
+RestartedSince (x ∷ h) s drone = (x.event ≡ Restarted drone)
+    ⊎ ((begins_upload x.event s ≡ false) × RestartedSince h s drone)
 
 -- the station was cancelled since its latest operation began
 abbrev pub CancelledSince : List Step → Stream → Type 0
@@ -145,7 +156,8 @@ CancelledSince (x ∷ h) s = (x.event ≡ Cancelled s) ⊎ ((begins x.event s �
 -- at one moment since the station's latest download began the drone held that plan of the kind
 abbrev pub HeldSince : List Step → Stream → Stream → ℕ → List Item → Type 0
 HeldSince [] s drone kind plan = ⊥
-HeldSince (x ∷ h) s drone kind plan = ((store_of (x ∷ h)).plan drone kind ≡ plan) ⊎ ((begins_get x.event s ≡ false) × HeldSince h s drone kind plan)
+HeldSince (x ∷ h) s drone kind plan = ((store_of (x ∷ h)).plan drone kind ≡ plan)
+    ⊎ ((begins_get x.event s ≡ false) × HeldSince h s drone kind plan)
 
 -- an outcome Got hands out a plan that the drone held since the download began
 abbrev pub GotHeld : List Step → Stream → List Item → Type 0
@@ -155,8 +167,8 @@ GotHeld h s plan = (c : Opening) × ((store_of h).opening s ≡ Some c) × HeldS
 abbrev pub NotInstalledBy : List Step → List Frame → Stream → ℕ → Type 0
 NotInstalledBy h sent s code = let t = (store_of h).transaction s in (code ≡ 15) ⊎ RefusedWith sent t.drone s t code
 
--- why an upload was reported as "unknown": since it began the drone has started again, the last item was sent, a cancel
--- after it, and the drone answered code 1 after that cancel
+-- why an upload was reported as "unknown": since it began the drone has started again, the last item was sent, a
+-- cancel after it, and the drone answered code 1 after that cancel
 pub record UnknownBy (h : List Step) (sent : List Frame) (s : Stream) : Type 0 where
   pub restarted : RestartedSince h s ((store_of h).transaction s).drone
   pub answered : Acked sent ((store_of h).transaction s).drone s ((store_of h).transaction s).drone_since 1
@@ -185,7 +197,8 @@ ClearedBy h s =
 abbrev pub EndedBy : List Step → List Frame → Stream → ℕ → Type 0
 EndedBy h sent s code =
     (c : Opening) × ((store_of h).opening s ≡ Some c)
-    × (Acked sent c.drone s c.drone_since code ⊎ (((code ≡ 15) × CancelledSince h s) ⊎ ((code ≡ 4) × TooMany c.kind c.job)))
+    × (Acked sent c.drone s c.drone_since code
+    ⊎ (((code ≡ 15) × CancelledSince h s) ⊎ ((code ≡ 4) × TooMany c.kind c.job)))
 
 -- the steps of a list of events, at the start of earlier ones
 abbrev pub steps_of : List Frame → List StoreEvent → List Step → List Step

@@ -1,6 +1,7 @@
 -- The abstract mission store: the plans of all drones, the latest upload transaction of each station, and
 -- the clear or download that a station has open. It knows of no buffer, retry, PING, timestamp order or request.
-use Rattle.std.specs.Prelude.{ℕ, ◌+◌, ◌≡◌, ◌<◌, ◌⊎◌, Bool, true, false, ◌==◌, ◌&&◌, ◌||◌, if◌then◌else◌, List, [], ◌∷◌, length, Option, Some, None, slice_get}
+use Rattle.std.specs.Prelude.{ℕ, ◌+◌, ◌≡◌, ◌<◌, ◌⊎◌, Bool, true, false, ◌==◌, ◌&&◌, ◌||◌, if◌then◌else◌, List, [], ◌∷◌}
+use Rattle.std.specs.Prelude.{length, Option, Some, None, slice_get}
 use Rattle.mav_names.specs.declared.names.Stream.{Stream}
 use Rattle.plan_items.specs.declared.items.Item.{Item}
 use Rattle.plan_items.specs.declared.faults.PlanFault.{PlanFault}
@@ -9,7 +10,8 @@ use Rattle.plan_items.specs.Kinds.{limit_of}
 use Rattle.plan_items.specs.Validation.{code_of}
 use Rattle.plan_upload.specs.Addresses.{same_stream, node_of}
 use Rattle.plan_upload.specs.Plans.{every_kind}
-use Rattle.plan_upload.specs.Station.{Told, Told_installed, Told_not_installed, Told_unknown, Told_cleared, Told_got, Told_ended}
+use Rattle.plan_upload.specs.Station.{Told, Told_installed, Told_not_installed, Told_unknown, Told_cleared, Told_got}
+use Rattle.plan_upload.specs.Station.{Told_ended}
 use Rattle.plan_safety.specs.Frames.{Frame, Said, SaidAfter}
 
 -- an upload transaction is fresh until it is installed, or closed uninstalled
@@ -71,7 +73,8 @@ Acked sent drone station since code = (kind : ℕ) × Said sent drone since (Ack
 -- the station sent its count and each item to the drone since the transaction began
 pub record FullySent (sent : List Frame) (station : Stream) (t : Transaction) : Type 0 where
   pub count : Said sent station t.since (Count (node_of t.drone) (length t.plan) t.kind)
-  pub items : (seq : ℕ) (item : Item) → slice_get t.plan seq ≡ Some item → Said sent station t.since (Give (node_of t.drone) seq t.kind item)
+  pub items : (seq : ℕ) (item : Item) → slice_get t.plan seq ≡ Some item
+      → Said sent station t.since (Give (node_of t.drone) seq t.kind item)
 
 -- the station sent its count of the upload to the drone
 abbrev pub CountSent : List Frame → Stream → Stream → Transaction → Type 0
@@ -79,7 +82,8 @@ CountSent sent drone station t = Said sent station t.since (Count (node_of drone
 
 -- after that count the drone asked the station for an item of the kind
 abbrev pub ItemAsked : List Frame → Stream → Stream → Transaction → Type 0
-ItemAsked sent drone station t = (seq : ℕ) × SaidAfter (λ earlier. CountSent earlier drone station t) sent drone (Request (node_of station) seq t.kind)
+ItemAsked sent drone station t = (seq : ℕ)
+    × SaidAfter (λ earlier. CountSent earlier drone station t) sent drone (Request (node_of station) seq t.kind)
 
 -- the codes that refuse a count: UNSUPPORTED, NO_SPACE, INVALID, DENIED
 abbrev pub RefusesCount : ℕ → Type 0
@@ -91,16 +95,19 @@ abbrev pub RefusesUpload : ℕ → Type 0
 RefusesUpload code = RefusesCount code ⊎ (((fault : PlanFault) × (code ≡ code_of fault)) ⊎ ((code ≡ 1) ⊎ (code ≡ 15)))
 
 -- the drone refused the upload with this code, in an acknowledgement of the upload's kind to the station: after the
--- upload's count with a code that refuses a count, or after it has asked for an item with a code that refuses an upload
+-- upload's count with a code that refuses a count, or after it has asked for an item with a code that refuses an
+-- upload
 abbrev pub RefusedWith : List Frame → Stream → Stream → Transaction → ℕ → Type 0
 RefusedWith sent drone station t code =
-    SaidAfter (λ earlier. (CountSent earlier drone station t × RefusesCount code) ⊎ (ItemAsked earlier drone station t × RefusesUpload code)) sent drone
+    SaidAfter (λ earlier. (CountSent earlier drone station t × RefusesCount code)
+    ⊎ (ItemAsked earlier drone station t × RefusesUpload code)) sent drone
     (Ack (node_of station) code t.kind)
 
 -- the station sent the last item
 abbrev pub FinalSent : List Frame → Stream → Transaction → Type 0
 FinalSent sent station t =
-    (seq : ℕ) × (item : Item) × (seq + 1 ≡ length t.plan) × (slice_get t.plan seq ≡ Some item) × Said sent station t.since (Give (node_of t.drone) seq t.kind item)
+    (seq : ℕ) × (item : Item) × (seq + 1 ≡ length t.plan) × (slice_get t.plan seq ≡ Some item)
+    × Said sent station t.since (Give (node_of t.drone) seq t.kind item)
 
 -- the station sent a cancel of the upload after the last item
 abbrev pub CancelledLast : List Frame → Stream → Transaction → Type 0
@@ -117,7 +124,8 @@ abbrev pub CancelSent : List Frame → Stream → Transaction → Type 0
 CancelSent sent station t = Said sent station t.since (Ack (node_of t.drone) 15 t.kind)
 
 -- what an installation needs of the station's latest upload transaction
-pub record MayInstall (sent : List Frame) (station drone : Stream) (kind : ℕ) (plan : List Item) (t : Transaction) : Type 0 where
+pub record MayInstall (sent : List Frame) (station drone : Stream) (kind : ℕ) (plan : List Item)
+    (t : Transaction) : Type 0 where
   pub fresh : t.stage ≡ Fresh
   pub drone_is : t.drone ≡ drone
   pub kind_is : t.kind ≡ kind
@@ -159,7 +167,8 @@ TooMany kind (A_get (Some plan)) = limit_of kind < length plan
 abbrev pub EndCause : List Frame → Stream → Bool → Option Opening → ℕ → Type 0
 EndCause sent station cancelled None code = ⊥
 EndCause sent station cancelled (Some c) code =
-    Acked sent c.drone station c.drone_since code ⊎ (((code ≡ 15) × (cancelled ≡ true)) ⊎ ((code ≡ 4) × TooMany c.kind c.job))
+    Acked sent c.drone station c.drone_since code
+    ⊎ (((code ≡ 15) × (cancelled ≡ true)) ⊎ ((code ≡ 4) × TooMany c.kind c.job))
 
 -- what an outcome needs
 abbrev pub MayEnd : List Frame → Stream → Transaction → Option Opening → Bool → Told → Type 0
@@ -170,7 +179,8 @@ MayEnd sent station t opening cancelled (Told_not_installed code) =
     (t.stage ≡ Fresh) × ((code ≡ 15) ⊎ RefusedWith sent t.drone station t code)
 -- unknown: the drone has started again, and answered code 1 after a cancel that was sent after the last item
 MayEnd sent station t opening cancelled Told_unknown =
-    (t.stage ≡ Closed → ⊥) × (t.lost ≡ true) × Acked sent t.drone station t.drone_since 1 × FinalSent sent station t × CancelSent sent station t
+    (t.stage ≡ Closed → ⊥) × (t.lost ≡ true) × Acked sent t.drone station t.drone_since 1 × FinalSent sent station t
+    × CancelSent sent station t
     × AnsweredLast sent station t 1
 -- cleared: a clear is open that has emptied each of its kinds; got: a download that saw that plan; ended: by its cause
 MayEnd sent station t opening cancelled Told_cleared = HasCleared opening
@@ -192,7 +202,8 @@ Needs sent m (Get_begun station drone kind drone_since) = m.opening station ≡ 
 Needs sent m (Shown drone kind plan station) = plan ≡ m.plan drone kind
 Needs sent m (Cancelled station) = Unit {0}
 -- an operation ends: by its outcome
-Needs sent m (Ended station told) = MayEnd sent station (m.transaction station) (m.opening station) (m.cancelled station) told
+Needs sent m (Ended station told) = MayEnd sent station (m.transaction station) (m.opening station)
+    (m.cancelled station) told
 Needs sent m (Restarted drone) = Unit {0}
 
 abbrev pub staged : Transaction → Stage → Transaction
@@ -218,7 +229,8 @@ saw (A_get shown) plan = A_get (Some plan)
 -- a download of that drone and kind sees the plan
 abbrev pub sees : Option Opening → Stream → ℕ → List Item → Option Opening
 sees None drone kind plan = None
-sees (Some c) drone kind plan = if same_stream c.drone drone && (c.kind == kind) then Some (record c { job = saw c.job plan }) else Some c
+sees (Some c) drone kind plan = if same_stream c.drone drone && (c.kind == kind)
+    then Some (record c { job = saw c.job plan }) else Some c
 
 abbrev pub with_plan : (ℕ → List Item) → ℕ → List Item → (ℕ → List Item)
 with_plan plan kind items = λ other. if other == kind then items else plan other
@@ -226,8 +238,12 @@ with_plan plan kind items = λ other. if other == kind then items else plan othe
 -- what the end of an operation does
 abbrev pub ends_with : Store → Stream → Told → Store
 ends_with m station Told_installed = m
-ends_with m station (Told_not_installed code) = record m { transaction = at m.transaction station (staged (m.transaction station) Closed) }
-ends_with m station Told_unknown = record m { transaction = at m.transaction station (given_up (m.transaction station)) }
+ends_with m station (Told_not_installed code) =
+    record m { transaction = at m.transaction station (staged (m.transaction station) Closed) }
+ends_with m station Told_unknown = record m {
+  transaction = at m.transaction station
+      (given_up (m.transaction station));
+}
 ends_with m station Told_cleared = record m { opening = at m.opening station None }
 ends_with m station (Told_got plan) = record m { opening = at m.opening station None }
 ends_with m station (Told_ended code) = record m { opening = at m.opening station None }
@@ -279,7 +295,8 @@ does m (Get_begun station drone kind drone_since) = record m {
   opening = at m.opening station (Some (opened drone kind (A_get None) drone_since));
   cancelled = at m.cancelled station false;
 }
-does m (Shown drone kind plan station) = record m { opening = at m.opening station (sees (m.opening station) drone kind plan) }
+does m (Shown drone kind plan station) =
+    record m { opening = at m.opening station (sees (m.opening station) drone kind plan) }
 does m (Cancelled station) = record m { cancelled = at m.cancelled station true }
 does m (Ended station told) = ends_with m station told
 does m (Restarted drone) = record m { transaction = λ station. lose drone (m.transaction station) }
@@ -295,7 +312,15 @@ follows m (e ∷ es) = follows (does m e) es
 
 -- at first no plan is held, and nothing was begun
 abbrev pub nothing : Stream → Transaction
-nothing station = record { drone = station; kind = 0; plan = []; since = 0; drone_since = 0; stage = Closed; lost = false }
+nothing station = record {
+  drone = station;
+  kind = 0;
+  plan = [];
+  since = 0;
+  drone_since = 0;
+  stage = Closed;
+  lost = false;
+}
 
 abbrev pub first_store : Store
 first_store = record {

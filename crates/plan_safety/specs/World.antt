@@ -2,7 +2,8 @@
 -- A node admits each frame whose timestamp is greater than the last one that it admitted of that stream. Whatever
 -- else makes a real node refuse a frame (too old, too many streams) only makes it admit fewer: it is as if the
 -- frame had not come.
-use Rattle.std.specs.Prelude.{ℕ, ◌+◌, ◌≡◌, Bool, true, false, if◌then◌else◌, ◌==◌, nat_lt, max, List, [], ◌∷◌, ◌++◌, Option, Some, None, slice_get}
+use Rattle.std.specs.Prelude.{ℕ, ◌+◌, ◌≡◌, Bool, true, false, if◌then◌else◌, ◌==◌, nat_lt, max, List, [], ◌∷◌, ◌++◌}
+use Rattle.std.specs.Prelude.{Option, Some, None, slice_get}
 use Rattle.mav_names.specs.declared.names.Stream.{Stream}
 use Rattle.plan_items.specs.declared.items.Item.{Item}
 use Rattle.plan_items.specs.declared.kinds.PlanKind.{PlanKind}
@@ -11,11 +12,14 @@ use Rattle.plan_items.specs.Kinds.{number_of}
 use Rattle.plan_upload.specs.declared.faults.OpFault.{OpFault}
 use Rattle.plan_upload.specs.Addresses.{node_of, is_for_drone}
 use Rattle.plan_upload.specs.Plans.{no_plans, every_kind}
-use Rattle.plan_upload.specs.Drone.{DroneState, DroneStep, DroneTick, PlanEvent, Quiet, Installs, Empties, Shows, drone_step, drone_tick, fresh_drone, restored}
-use Rattle.plan_upload.specs.Station.{StationState, StationStep, Operation, Told, fresh_station, stays, station_step, station_tick, station_cancel, begin_upload, begin_clear, begin_get, untold}
+use Rattle.plan_upload.specs.Drone.{DroneState, DroneStep, DroneTick, PlanEvent, Quiet, Installs, Empties, Shows}
+use Rattle.plan_upload.specs.Drone.{drone_step, drone_tick, fresh_drone, restored}
+use Rattle.plan_upload.specs.Station.{StationState, StationStep, Operation, Told, fresh_station, stays, station_step}
+use Rattle.plan_upload.specs.Station.{station_tick, station_cancel, begin_upload, begin_clear, begin_get, untold}
 use Rattle.plan_upload.specs.Refusals.{upload_refusal, refusal}
 use Rattle.plan_safety.specs.Frames.{Frame}
-use Rattle.plan_safety.specs.Store.{StoreEvent, Upload_begun, Installed, Clear_begun, Cleared, Get_begun, Shown, Cancelled, Ended, Restarted, at}
+use Rattle.plan_safety.specs.Store.{StoreEvent, Upload_begun, Installed, Clear_begun, Cleared, Get_begun, Shown}
+use Rattle.plan_safety.specs.Store.{Cancelled, Ended, Restarted, at}
 
 -- which streams are drones, and which are stations
 pub record Nodes : Type 0 where
@@ -78,16 +82,23 @@ quiet w = record w { news = [] }
 -- the node is `x` from now on, and sends an answer
 abbrev pub drone_sends : World → Stream → DroneNode → Option PlanMsg → World
 drone_sends w d x None = record w { drone = at w.drone d x }
-drone_sends w d x (Some m) = record w { drone = at w.drone d (record x { next = x.next + 1 }); sent = frame_of d x.next (Some m) ∷ w.sent }
+drone_sends w d x (Some m) = record w {
+  drone = at w.drone d (record x { next = x.next + 1 });
+  sent = frame_of d x.next (Some m) ∷ w.sent;
+}
 
 abbrev pub station_sends : World → Stream → StationNode → Option PlanMsg → World
 station_sends w s y None = record w { station = at w.station s y }
-station_sends w s y (Some m) = record w { station = at w.station s (record y { next = y.next + 1 }); sent = frame_of s y.next (Some m) ∷ w.sent }
+station_sends w s y (Some m) = record w {
+  station = at w.station s (record y { next = y.next + 1 });
+  sent = frame_of s y.next (Some m) ∷ w.sent;
+}
 
 -- what happens to a drone's plans, for the store: a clear of all kinds is three of its events
 abbrev pub clears : Stream → Stream → ℕ → List StoreEvent
 clears d station kind =
-    if kind == every_kind then Cleared d 0 station ∷ Cleared d 1 station ∷ Cleared d 2 station ∷ [] else Cleared d kind station ∷ []
+    if kind == every_kind then Cleared d 0 station ∷ Cleared d 1 station ∷ Cleared d 2 station ∷ []
+    else Cleared d kind station ∷ []
 
 abbrev pub drone_news : Stream → PlanEvent → List StoreEvent
 drone_news d Quiet = []
@@ -122,7 +133,8 @@ station_takes y from (Some m) = station_step y from m
 abbrev pub drone_admits : World → Bool → Stream → DroneNode → Frame → World
 drone_admits w keeps d x f =
     if nat_lt (x.last f.from) f.timestamp
-    then drone_does w d (record x { last = at x.last f.from f.timestamp; next = max x.next f.timestamp }) (drone_takes keeps x.state f.from f.message)
+    then drone_does w d (record x { last = at x.last f.from f.timestamp; next = max x.next f.timestamp })
+    (drone_takes keeps x.state f.from f.message)
     else quiet w
 
 -- a step of a station at a frame or a tick: what it reports
@@ -132,7 +144,8 @@ station_steps w s y a = station_does w s y a (outcome_news s a.told)
 abbrev pub station_admits : World → Stream → StationNode → Frame → World
 station_admits w s y f =
     if nat_lt (y.last f.from) f.timestamp
-    then station_steps w s (record y { last = at y.last f.from f.timestamp; next = max y.next f.timestamp }) (station_takes y.state f.from f.message)
+    then station_steps w s (record y { last = at y.last f.from f.timestamp; next = max y.next f.timestamp })
+    (station_takes y.state f.from f.message)
     else quiet w
 
 abbrev pub to_drone : World → Bool → Stream → Option Frame → World
@@ -179,10 +192,16 @@ abbrev pub where_station : Nodes → Stream → World → World → World
 where_station n s w v = if n.is_station s then v else quiet w
 
 abbrev pub drone_speaks : World → Stream → DroneNode → World
-drone_speaks w d x = record (quiet w) { drone = at w.drone d (record x { next = x.next + 1 }); sent = frame_of d x.next None ∷ w.sent }
+drone_speaks w d x = record (quiet w) {
+  drone = at w.drone d (record x { next = x.next + 1 });
+  sent = frame_of d x.next None ∷ w.sent;
+}
 
 abbrev pub station_speaks : World → Stream → StationNode → World
-station_speaks w s y = record (quiet w) { station = at w.station s (record y { next = y.next + 1 }); sent = frame_of s y.next None ∷ w.sent }
+station_speaks w s y = record (quiet w) {
+  station = at w.station s (record y { next = y.next + 1 });
+  sent = frame_of s y.next None ∷ w.sent;
+}
 
 abbrev pub happens : Nodes → World → Event → World
 happens n w (Begins s d kind plan) =
@@ -198,18 +217,28 @@ happens n w (Gets s d kind) =
     (station_calls w s (w.station s) (begin_get (w.station s).state d (number_of kind))
     (Get_begun s d (number_of kind) (w.drone d).next ∷ []))))
 happens n w (Cancels s) =
-    where_station n s w (station_calls w s (w.station s) (station_cancel (w.station s).state) (cancel_news s (w.station s).state.operation))
-happens n w (Hands_out s) = where_station n s w (station_calls w s (w.station s) (stays (untold (w.station s).state)) [])
+    where_station n s w (station_calls w s (w.station s) (station_cancel (w.station s).state)
+    (cancel_news s (w.station s).state.operation))
+happens n w (Hands_out s) = where_station n s w
+    (station_calls w s (w.station s) (stays (untold (w.station s).state)) [])
 happens n w (Drone_ticks d) = where_drone n d w (drone_ticked w d (w.drone d) (drone_tick (w.drone d).state))
-happens n w (Station_ticks s) = where_station n s w (station_steps w s (w.station s) (station_tick (w.station s).state))
+happens n w (Station_ticks s) = where_station n s w
+    (station_steps w s (w.station s) (station_tick (w.station s).state))
 happens n w (To_drone index d keeps) = where_drone n d w (to_drone w keeps d (slice_get w.sent index))
 happens n w (To_station index s) = where_station n s w (to_station w s (slice_get w.sent index))
 happens n w (Speaks node) =
-    if n.is_drone node then drone_speaks w node (w.drone node) else where_station n node w (station_speaks w node (w.station node))
+    if n.is_drone node then drone_speaks w node (w.drone node)
+    else where_station n node w (station_speaks w node (w.station node))
 happens n w (Drone_waits d t) =
-    where_drone n d w (record (quiet w) { drone = at w.drone d (record (w.drone d) { next = max (w.drone d).next t }) })
+    where_drone n d w (record (quiet w) {
+      drone = at w.drone d
+          (record (w.drone d) { next = max (w.drone d).next t });
+    })
 happens n w (Station_waits s t) =
-    where_station n s w (record (quiet w) { station = at w.station s (record (w.station s) { next = max (w.station s).next t }) })
+    where_station n s w (record (quiet w) {
+      station = at w.station s
+          (record (w.station s) { next = max (w.station s).next t });
+    })
 happens n w (Restarts d low) =
     where_drone n d w (record w { drone = at w.drone d (restarted (w.drone d) low); news = Restarted d ∷ [] })
 

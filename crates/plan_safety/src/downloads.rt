@@ -10,5 +10,6 @@ ghost use Rattle.plan_safety.specs.History.{Step, step, IsHistory, GotHeld};
 /// The plan of an outcome Got is one that the drone held, of that kind, at a moment since the download
 /// began.
 pub fn every_download()
-    ensures { (h : List Step) → (sent : List Frame) → (s : Stream) → (plan : List Item) → IsHistory (step sent (Ended s (Told_got plan)) ∷ h) → GotHeld h s plan }
+    ensures { (h : List Step) → (sent : List Frame) → (s : Stream) → (plan : List Item)
+        → IsHistory (step sent (Ended s (Told_got plan)) ∷ h) → GotHeld h s plan }
 {}

@@ -12,8 +12,12 @@ ghost use Rattle.plan_safety.specs.History.{Step, step, IsHistory, NotInstalledB
 /// Cleared comes only if each kind of the clear was emptied since it began. Ended has a code that the
 /// drone sent since the operation began, or 15 after a cancel, or 4 for too long a plan.
 pub fn every_outcome()
-    ensures not_installed { (h : List Step) → (sent : List Frame) → (s : Stream) → (code : ℕ) → IsHistory (step sent (Ended s (Told_not_installed code)) ∷ h) → NotInstalledBy h sent s code }
-    ensures unknown { (h : List Step) → (sent : List Frame) → (s : Stream) → IsHistory (step sent (Ended s Told_unknown) ∷ h) → UnknownBy h sent s }
-    ensures cleared { (h : List Step) → (sent : List Frame) → (s : Stream) → IsHistory (step sent (Ended s Told_cleared) ∷ h) → ClearedBy h s }
-    ensures ended { (h : List Step) → (sent : List Frame) → (s : Stream) → (code : ℕ) → IsHistory (step sent (Ended s (Told_ended code)) ∷ h) → EndedBy h sent s code }
+    ensures not_installed { (h : List Step) → (sent : List Frame) → (s : Stream) → (code : ℕ)
+        → IsHistory (step sent (Ended s (Told_not_installed code)) ∷ h) → NotInstalledBy h sent s code }
+    ensures unknown { (h : List Step) → (sent : List Frame) → (s : Stream)
+        → IsHistory (step sent (Ended s Told_unknown) ∷ h) → UnknownBy h sent s }
+    ensures cleared { (h : List Step) → (sent : List Frame) → (s : Stream)
+        → IsHistory (step sent (Ended s Told_cleared) ∷ h) → ClearedBy h s }
+    ensures ended { (h : List Step) → (sent : List Frame) → (s : Stream) → (code : ℕ)
+        → IsHistory (step sent (Ended s (Told_ended code)) ∷ h) → EndedBy h sent s code }
 {}

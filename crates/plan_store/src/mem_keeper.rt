@@ -3,7 +3,8 @@ ghost use Rattle.std.specs.Prelude.{◌≡◌, ◌≤◌, ◌⊎◌, ◌↔◌, 
 ghost use Rattle.mav_ports.specs.Calls.{call_after};
 ghost use Rattle.mav_ports.specs.Counts.{next_count};
 ghost use Rattle.plan_store.specs.Keeps.{CountsStoreFault, IsNotStoreFault};
-ghost use Rattle.plan_store.specs.MemStores.{store_from_start, fails_next, is_odd_call, after_load, save_answer, after_save};
+ghost use Rattle.plan_store.specs.MemStores.{store_from_start, fails_next, is_odd_call, after_load, save_answer};
+ghost use Rattle.plan_store.specs.MemStores.{after_save};
 
 use crate::{KeepFault, Keeper, MAX_SAVED_BYTES};
 use std::alloc::{AllocError, Global};

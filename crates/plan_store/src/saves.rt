@@ -23,10 +23,13 @@ pub fn save_or_load<K: Keeper>(keeper: &mut K, old: &[u8], new: &[u8]) -> Result
     ensures old_differ { result ≡ Ok Stored.Old → old.now ≢ new.now }
     ensures old_rose { result ≡ Ok Stored.Old → Rose (K.faults keeper.old) (K.faults keeper.new) }
     ensures fault { result ≡ Err KeepFault.Store → Rose (K.faults keeper.old) (K.faults keeper.new) }
-    ensures both_failed { result ≡ Err KeepFault.Store → IfSome (K.contents keeper.old) (λ kept. kept ≡ old.now → Rose (next_count (K.faults keeper.old)) (K.faults keeper.new)) }
+    ensures both_failed { result ≡ Err KeepFault.Store
+        → IfSome (K.contents keeper.old) (λ kept. kept ≡ old.now
+        → Rose (next_count (K.faults keeper.old)) (K.faults keeper.new)) }
     ensures either { KeptOrReplaced (K.contents keeper.old) (K.contents keeper.new) new.now }
     ensures count { K.faults keeper.old ≤ K.faults keeper.new }
-    ensures infallible { K.is_infallible keeper.old → K.is_infallible keeper.new × ((result ≡ Ok Stored.New) ⊎ (result ≡ Err KeepFault.NoMemory)) }
+    ensures infallible { K.is_infallible keeper.old → K.is_infallible keeper.new
+        × ((result ≡ Ok Stored.New) ⊎ (result ≡ Err KeepFault.NoMemory)) }
 {
     match keeper.save(new) {
         Ok(()) => Ok(Stored::New),
@@ -40,7 +43,9 @@ fn load_stored<K: Keeper>(keeper: &mut K, old: &[u8], new: &[u8]) -> Result<Stor
     ensures new { result ≡ Ok Stored.New → IfSome (K.contents keeper.old) (λ kept. new.now ≡ kept) }
     ensures old { result ≡ Ok Stored.Old → IfSome (K.contents keeper.old) (λ kept. old.now ≡ kept) }
     ensures old_differ { result ≡ Ok Stored.Old → old.now ≢ new.now }
-    ensures fault { result ≡ Err KeepFault.Store → IfSome (K.contents keeper.old) (λ kept. (kept ≢ old.now) × (kept ≢ new.now)) ⊎ Rose (K.faults keeper.old) (K.faults keeper.new) }
+    ensures fault { result ≡ Err KeepFault.Store
+        → IfSome (K.contents keeper.old) (λ kept. (kept ≢ old.now) × (kept ≢ new.now))
+        ⊎ Rose (K.faults keeper.old) (K.faults keeper.new) }
     ensures stays { K.contents keeper.new ≡ K.contents keeper.old }
     ensures count { K.faults keeper.old ≤ K.faults keeper.new }
 {

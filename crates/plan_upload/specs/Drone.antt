@@ -1,12 +1,14 @@
 -- The drone's side of the mission protocol: what a drone does at a plan message of a stream, and at a tick.
 -- MAVLink guide, Mission Protocol: upload, download, clear. That a count of 0 is refused, and the reply
 -- to a cancel, are this project's profile.
-use Rattle.std.specs.Prelude.{ℕ, ◌+◌, ◌-◌, ◌^◌, ◌==◌, Bool, true, false, if◌then◌else◌, ◌&&◌, not, nat_lt, min, is_some, List, [], ◌∷◌, ◌++◌, length, slice_get, Option, Some, None}
+use Rattle.std.specs.Prelude.{ℕ, ◌+◌, ◌-◌, ◌^◌, ◌==◌, Bool, true, false, if◌then◌else◌, ◌&&◌, not, nat_lt, min}
+use Rattle.std.specs.Prelude.{is_some, List, [], ◌∷◌, ◌++◌, length, slice_get, Option, Some, None}
 use Rattle.mav_names.specs.declared.names.Stream.{Stream}
 use Rattle.plan_items.specs.declared.items.Item.{Item}
 use Rattle.plan_items.specs.declared.faults.PlanFault.{PlanFault}
 use Rattle.plan_items.specs.declared.messages.PlanMsg.{PlanMsg}
-use Rattle.plan_items.specs.declared.messages.PlanMsg.TheVariants.{Count, Request, Item as Give, Ack, List as Listing, Clear, Ping}
+use Rattle.plan_items.specs.declared.messages.PlanMsg.TheVariants.{Count, Request, Item as Give, Ack, List as Listing}
+use Rattle.plan_items.specs.declared.messages.PlanMsg.TheVariants.{Clear, Ping}
 use Rattle.plan_items.specs.Kinds.{limit_of}
 use Rattle.plan_items.specs.Validation.{item_fault, plan_fault, code_of}
 use Rattle.plan_upload.specs.Addresses.{same_stream, same_name, node_of, everyone, is_for_drone}
@@ -93,7 +95,8 @@ result_of (r ∷ rs) s = if same_stream r.stream s then Some r.installed else re
 abbrev pub with_result : List UploadResult → Stream → Bool → List UploadResult
 with_result [] s installed = record { stream = s; installed = installed } ∷ []
 with_result (r ∷ rs) s installed =
-    if same_stream r.stream s then record { stream = r.stream; installed = installed } ∷ rs else r ∷ with_result rs s installed
+    if same_stream r.stream s then record { stream = r.stream; installed = installed } ∷ rs
+    else r ∷ with_result rs s installed
 
 -- an upload of this stream is open; one of another stream is
 abbrev pub is_own : Option Upload → Stream → Bool
@@ -155,7 +158,11 @@ last_item keeps d s kind items =
     -- the whole plan has a fault: INVALID
     if is_some (plan_fault kind items) then answers (closed d s) (ack s 5 kind)
     -- else it is installed: ACCEPTED
-    else if keeps then record { drone = installed d s kind items; answer = Some (ack s 0 kind); event = Installs s kind items }
+    else if keeps then record {
+      drone = installed d s kind items;
+      answer = Some (ack s 0 kind);
+      event = Installs s kind items;
+    }
     -- it could not be kept: ERROR
     else answers (closed d s) (ack s 1 kind)
 
@@ -246,7 +253,8 @@ list_comes d s kind =
 -- the item that is asked for, if the copy has it; else INVALID_SEQUENCE
 abbrev pub give_item : DroneState → Stream → Download → ℕ → ℕ → Option Item → DroneStep
 give_item d s t seq kind None = answers d (ack s 13 kind)
-give_item d s t seq kind (Some item) = answers (record d { download = Some (record t { idle = 0 }) }) (Give (node_of s) seq kind item)
+give_item d s t seq kind (Some item) = answers (record d { download = Some (record t { idle = 0 }) })
+    (Give (node_of s) seq kind item)
 
 -- MISSION_REQUEST_INT
 abbrev pub request_comes : DroneState → Stream → Option Download → ℕ → ℕ → DroneStep
@@ -263,7 +271,8 @@ heard d is_for step = if is_for then step else rests d
 abbrev pub drone_step : Bool → DroneState → Stream → PlanMsg → DroneStep
 drone_step keeps d s (Ping to usec seq) = heard d (same_name to everyone) (answers d (Ping (node_of s) usec seq))
 drone_step keeps d s (Count to count kind) = heard d (is_for_drone d.sys to) (count_comes d s count kind)
-drone_step keeps d s (Give to seq kind item) = heard d (is_for_drone d.sys to) (item_comes keeps d s d.upload seq kind item)
+drone_step keeps d s (Give to seq kind item) =
+    heard d (is_for_drone d.sys to) (item_comes keeps d s d.upload seq kind item)
 drone_step keeps d s (Ack to code kind) = heard d (is_for_drone d.sys to) (ack_comes d s code kind)
 drone_step keeps d s (Clear to kind) = heard d (is_for_drone d.sys to) (clear_comes keeps d s kind)
 drone_step keeps d s (Listing to kind) = heard d (is_for_drone d.sys to) (list_comes d s kind)

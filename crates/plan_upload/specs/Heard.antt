@@ -1,7 +1,8 @@
 -- Which plan messages a drone accepts.
 use Rattle.std.specs.Prelude.{ℕ, Bool, is_some, IsTrue, List, Option, Some, None}
 use Rattle.plan_items.specs.declared.messages.PlanMsg.{PlanMsg}
-use Rattle.plan_items.specs.declared.messages.PlanMsg.TheVariants.{Count, Request, Item as Give, Ack, List as Listing, Clear, Ping}
+use Rattle.plan_items.specs.declared.messages.PlanMsg.TheVariants.{Count, Request, Item as Give, Ack, List as Listing}
+use Rattle.plan_items.specs.declared.messages.PlanMsg.TheVariants.{Clear, Ping}
 use Rattle.plan_upload.specs.Addresses.{same_name, everyone, is_for_drone}
 use Rattle.plan_upload.specs.Drone.{Upload, UploadResult, result_of}
 

@@ -7,4 +7,9 @@ use Rattle.plan_upload.specs.declared.downloads.OpenDownload.{OpenDownload}
 
 abbrev pub download_view : Option OpenDownload → List Item → Option Download
 download_view None items = None
-download_view (Some t) items = Some (record { stream = t.stream; kind = number_of t.kind; items = items; idle = t.idle })
+download_view (Some t) items = Some (record {
+  stream = t.stream;
+  kind = number_of t.kind;
+  items = items;
+  idle = t.idle;
+})

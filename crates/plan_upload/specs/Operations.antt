@@ -5,20 +5,27 @@ use Rattle.plan_items.specs.Kinds.{number_of}
 use Rattle.plan_items.specs.Plans.{items_of}
 use Rattle.plan_items.specs.declared.kinds.PlanKind.{PlanKind}
 use Rattle.plan_upload.specs.Kinds.{clear_number}
-use Rattle.plan_upload.specs.Station.{Work, Uploads, Clears, Gets, Pinging, Cancelling, Sending, Clearing, Listing_items, Getting, Operation, Told, operation_of, outcome_at, phase_number}
+use Rattle.plan_upload.specs.Station.{Work, Uploads, Clears, Gets, Pinging, Cancelling, Sending, Clearing}
+use Rattle.plan_upload.specs.Station.{Listing_items, Getting, Operation, Told, operation_of, outcome_at, phase_number}
 use Rattle.plan_upload.specs.declared.operations.UploadTask.{UploadTask}
 use Rattle.plan_upload.specs.declared.operations.GetTask.{GetTask}
 use Rattle.plan_upload.specs.declared.operations.Getting.{Getting as DownloadParts}
 use Rattle.plan_upload.specs.declared.operations.Task.{Task}
 use Rattle.plan_upload.specs.declared.operations.Task.TheVariants.{Upload, Clear, Get}
 use Rattle.plan_upload.specs.declared.operations.Stage.{Stage}
-use Rattle.plan_upload.specs.declared.operations.Stage.TheVariants.{Pinging as InPinging, Cancelling as InCancelling, Sending as InSending, Clearing as InClearing, Listing as InListing, Getting as InGetting}
+use Rattle.plan_upload.specs.declared.operations.Stage.TheVariants.{Pinging as InPinging, Cancelling as InCancelling}
+use Rattle.plan_upload.specs.declared.operations.Stage.TheVariants.{Sending as InSending, Clearing as InClearing}
+use Rattle.plan_upload.specs.declared.operations.Stage.TheVariants.{Listing as InListing, Getting as InGetting}
 use Rattle.plan_upload.specs.declared.operations.OpenOperation.{OpenOperation}
 
 -- an operation at the start of a resynchronisation attempt, before a PING number is taken for it
 abbrev pub upload_task : Stream → UploadTask → Operation
 upload_task drone t =
-    record (operation_of Uploads drone (number_of t.kind) (items_of t.plan)) { asked = t.asked; final_sent = t.final_sent; code = t.code }
+    record (operation_of Uploads drone (number_of t.kind) (items_of t.plan)) {
+      asked = t.asked;
+      final_sent = t.final_sent;
+      code = t.code;
+    }
 
 -- a clear or a download
 abbrev pub plain_task : Work → Stream → ℕ → Operation
@@ -30,7 +37,8 @@ task_view drone (Clear kind) = plain_task Clears drone (clear_number kind)
 task_view drone (Get t) = plain_task Gets drone (number_of t.kind)
 
 abbrev pub pinging_view : Stream → Task → Bool → Option ℕ → Operation
-pinging_view drone task terminating number = record (task_view drone task) { terminating = terminating; number = number }
+pinging_view drone task terminating number =
+    record (task_view drone task) { terminating = terminating; number = number }
 
 abbrev pub cancelling_view : Stream → Task → Bool → ℕ → Operation
 cancelling_view drone task terminating number =
@@ -46,7 +54,12 @@ abbrev pub listing_view : Stream → GetTask → ℕ → Operation
 listing_view drone t idle = record (plain_task Gets drone (number_of t.kind)) { phase = Listing_items; idle = idle }
 
 abbrev pub getting_view : Stream → DownloadParts → Operation
-getting_view drone t = record (plain_task Gets drone (number_of t.kind)) { phase = Getting; idle = t.idle; total = t.total; got = t.items }
+getting_view drone t = record (plain_task Gets drone (number_of t.kind)) {
+  phase = Getting;
+  idle = t.idle;
+  total = t.total;
+  got = t.items;
+}
 
 abbrev pub stage_view : Stream → Stage → Operation
 stage_view drone (InPinging task terminating number) = pinging_view drone task terminating number

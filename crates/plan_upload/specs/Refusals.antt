@@ -27,7 +27,8 @@ abbrev pub unfit : ℕ → List Item → Option OpFault
 unfit kind plan = if nat_lt (limit_of kind) (length plan) then Some (NotFit (limit_of kind)) else None
 
 abbrev pub upload_refusal : StationState → ℕ → List Item → Option OpFault
-upload_refusal s kind plan = first_of (busy_with s.operation) (first_of (empty_plan plan) (first_of (spent s) (unfit kind plan)))
+upload_refusal s kind plan = first_of (busy_with s.operation)
+    (first_of (empty_plan plan) (first_of (spent s) (unfit kind plan)))
 
 -- of a clear or a download
 abbrev pub refusal : StationState → Option OpFault

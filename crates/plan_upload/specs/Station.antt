@@ -3,12 +3,14 @@
 -- MAVLink guide, Mission Protocol: upload, download, clear, cancel. The resynchronisation before an
 -- operation, and after one that didn't end with the acknowledgement of its own last item, is this project's
 -- profile: a PING with a number never used before, its reply, one cancel and its reply.
-use Rattle.std.specs.Prelude.{ℕ, ◌+◌, ◌==◌, Bool, true, false, if◌then◌else◌, ◌||◌, ◌&&◌, nat_lt, List, [], ◌∷◌, ◌++◌, length, take, slice_get, Option, Some, None}
+use Rattle.std.specs.Prelude.{ℕ, ◌+◌, ◌==◌, Bool, true, false, if◌then◌else◌, ◌||◌, ◌&&◌, nat_lt, List, [], ◌∷◌, ◌++◌}
+use Rattle.std.specs.Prelude.{length, take, slice_get, Option, Some, None}
 use Rattle.mav_names.specs.declared.names.Name.{Name}
 use Rattle.mav_names.specs.declared.names.Stream.{Stream}
 use Rattle.plan_items.specs.declared.items.Item.{Item}
 use Rattle.plan_items.specs.declared.messages.PlanMsg.{PlanMsg}
-use Rattle.plan_items.specs.declared.messages.PlanMsg.TheVariants.{Count, Request, Item as Give, Ack, List as Listing, Clear, Ping}
+use Rattle.plan_items.specs.declared.messages.PlanMsg.TheVariants.{Count, Request, Item as Give, Ack, List as Listing}
+use Rattle.plan_items.specs.declared.messages.PlanMsg.TheVariants.{Clear, Ping}
 use Rattle.plan_items.specs.Kinds.{limit_of}
 use Rattle.plan_upload.specs.Addresses.{same_stream, same_name, node_of, everyone}
 use Rattle.plan_upload.specs.Drone.{idle_limit}
@@ -228,7 +230,8 @@ phase_step s o Pinging (Ping to usec seq) =
     else stays s
 phase_step s o Cancelling (Ack to code kind) =
     if (code == 0) || ((code == 1) || (code == 15)) then synchronises s o code else stays s
-phase_step s o Sending (Request to seq kind) = if kind == o.kind then item_asked s o seq (slice_get o.plan seq) else stays s
+phase_step s o Sending (Request to seq kind) = if kind == o.kind then item_asked s o seq (slice_get o.plan seq)
+    else stays s
 phase_step s o Sending (Ack to code kind) = upload_acked s o code
 phase_step s o Clearing (Ack to code kind) =
     if code == 0 then ends s o.drone Told_cleared
@@ -236,7 +239,8 @@ phase_step s o Clearing (Ack to code kind) =
     else if (code == 3) || (code == 14) then ends s o.drone (Told_ended code)
     else stays s
 phase_step s o Listing_items (Count to count kind) = if kind == o.kind then counted s o count else stays s
-phase_step s o Listing_items (Ack to code kind) = if (code == 3) || (code == 14) then ends s o.drone (Told_ended code) else stays s
+phase_step s o Listing_items (Ack to code kind) = if (code == 3) || (code == 14) then ends s o.drone (Told_ended code)
+    else stays s
 phase_step s o Getting (Give to seq kind item) =
     if (kind == o.kind) && (seq == length o.got) then item_got s o (o.got ++ item ∷ []) else stays s
 phase_step s o Getting (Ack to code kind) = if code == 0 then stays s else ends s o.drone (Told_ended code)
@@ -286,7 +290,8 @@ phase_tick s o Sending =
 phase_tick s o Clearing = if is_patient o then tries_again s o None else resynchronises s o
 phase_tick s o Listing_items = if is_patient o then tries_again s o None else resynchronises s o
 phase_tick s o Getting =
-    if is_patient o then tries_again s o (Some (Request (node_of o.drone) (length o.got) o.kind)) else resynchronises s o
+    if is_patient o then tries_again s o (Some (Request (node_of o.drone) (length o.got) o.kind))
+    else resynchronises s o
 
 abbrev pub operation_tick : StationState → Option Operation → StationStep
 operation_tick s None = stays s

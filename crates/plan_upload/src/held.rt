@@ -131,7 +131,8 @@ impl HeldPlans {
     ) -> Result<Vec<u8>, NoMemory>
         requires below { floor < 2 ^ 48 }
         requires holdable { IsHoldable (number_of kind) items.now }
-        ensures image { IfOk result (λ bytes. IsImageOf sys floor (with_plan self.now (number_of kind) items.now) bytes.items) }
+        ensures image { IfOk result (λ bytes. IsImageOf sys floor
+            (with_plan self.now (number_of kind) items.now) bytes.items) }
         ensures short { IfOk result (λ bytes. vec_len bytes ≤ most_bytes) }
     {
         let mission = self.items(PlanKind::Mission);
@@ -153,7 +154,8 @@ impl HeldPlans {
         kind: Option<PlanKind>,
     ) -> Result<Vec<u8>, NoMemory>
         requires { floor < 2 ^ 48 }
-        ensures image { IfOk result (λ bytes. IsImageOf sys floor (without_plan self.now (clear_number kind)) bytes.items) }
+        ensures image { IfOk result (λ bytes. IsImageOf sys floor
+            (without_plan self.now (clear_number kind)) bytes.items) }
         ensures short { IfOk result (λ bytes. vec_len bytes ≤ most_bytes) }
     {
         let none = PlanItems {

@@ -9,7 +9,8 @@ ghost use Rattle.plan_upload.specs.Keeping.{HasKind};
 
 /// A step that changes no plan is the same whether or not the store keeps new ones.
 pub fn every_unchanging_step()
-    ensures { (d : DroneState) → (s : Stream) → (m : PlanMsg) → HasKind d.upload → change_of d s m ≡ Same → drone_step true d s m ≡ drone_step false d s m }
+    ensures { (d : DroneState) → (s : Stream) → (m : PlanMsg) → HasKind d.upload → change_of d s m ≡ Same
+        → drone_step true d s m ≡ drone_step false d s m }
 {}
 
 /// If the store doesn't keep new plans they stay as they were.

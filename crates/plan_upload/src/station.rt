@@ -7,7 +7,9 @@ ghost use Rattle.plan_upload.specs.Kinds.{clear_number};
 ghost use Rattle.plan_upload.specs.Operations.{task_view, stage_view, cancelling_view, pinging_view};
 ghost use Rattle.plan_upload.specs.Outcomes.{told_of};
 ghost use Rattle.plan_upload.specs.Refusals.{refusal, upload_refusal, first_of, busy_with};
-ghost use Rattle.plan_upload.specs.Station.{fresh_station, with_operation, station_step, station_tick, station_cancel, begin_upload, begin_clear, begin_get, begins, starts, resynchronises, synchronised, ends_with, untold};
+ghost use Rattle.plan_upload.specs.Station.{fresh_station, with_operation, station_step, station_tick, station_cancel};
+ghost use Rattle.plan_upload.specs.Station.{begin_upload, begin_clear, begin_get, begins, starts, resynchronises};
+ghost use Rattle.plan_upload.specs.Station.{synchronised, ends_with, untold};
 
 mod cancelling;
 mod clearing;
@@ -246,7 +248,8 @@ impl Station {
         plan: Plan,
     ) -> Result<PlanMsg, BeginFault>
         ensures ok { OnOk result (self.new ≡ (begin_upload self.old drone (number_of kind) (items_of plan)).station) }
-        ensures message { IfOk result (λ m. Some m ≡ (begin_upload self.old drone (number_of kind) (items_of plan)).answer) }
+        ensures message { IfOk result (λ m. Some m
+            ≡ (begin_upload self.old drone (number_of kind) (items_of plan)).answer) }
 
         // It is refused exactly if there is a cause, with the first.
         ensures accepted { OnOk result (upload_refusal self.old (number_of kind) (items_of plan) ≡ None) }

@@ -1,11 +1,14 @@
 // The upload that is open at a drone.
-ghost use Rattle.std.specs.Prelude.{option_to_list, ◌≡◌, ◌<◌, ◌≤◌, [], ◌∷◌, ◌++◌, Some, None, IfOk, IsTrue, is_some, All};
+ghost use Rattle.std.specs.Prelude.{option_to_list, ◌≡◌, ◌<◌, ◌≤◌, [], ◌∷◌, ◌++◌, Some, None, IfOk, IsTrue, is_some};
+ghost use Rattle.std.specs.Prelude.{All};
 ghost use Rattle.plan_items.specs.Kinds.{number_of, limit_of};
 ghost use Rattle.plan_items.specs.Plans.{items_of};
 ghost use Rattle.plan_items.specs.Validation.{item_fault, plan_fault};
 ghost use Rattle.plan_upload.specs.Drone.{is_own, is_other};
 ghost use Rattle.plan_upload.specs.Keeping.{HasKind, gathered_in, IsValidIn};
-ghost use Rattle.plan_upload.specs.Gathering.{last_verdict, verdict_of, asked_of, acked_of, with_item, plans_with, can_gather, is_sound_with, stream_of, kind_in, upload_after, sent_at_tick};
+ghost use Rattle.plan_upload.specs.Gathering.{last_verdict, verdict_of, asked_of, acked_of, with_item, plans_with};
+ghost use Rattle.plan_upload.specs.Gathering.{can_gather, is_sound_with, stream_of, kind_in, upload_after};
+ghost use Rattle.plan_upload.specs.Gathering.{sent_at_tick};
 
 use crate::NoMemory;
 use crate::addresses::{acknowledge, request};
@@ -101,7 +104,13 @@ impl UploadSlot {
     pub fn open(&mut self, stream: Stream, kind: PlanKind, total: u16)
         requires some { 0 < total }
         requires fits { total ≤ limit_of (number_of kind) }
-        ensures { self.new ≡ Some (record { stream = stream; kind = number_of kind; total = total; items = []; idle = 0 }) }
+        ensures { self.new ≡ Some (record {
+          stream = stream;
+          kind = number_of kind;
+          total = total;
+          items = [];
+          idle = 0;
+        }) }
     {
         self.items.clear();
         self.open = Some(OpenUpload {
@@ -203,7 +212,8 @@ impl UploadSlot {
     /// The items that were gathered, and one more after them, if there is one.
     pub fn items_with(&self, last: Option<Item>) -> PlanItems<'_>
         ensures items { result ≡ gathered_in self.now ++ option_to_list last }
-        ensures valid { (item : Item) → last ≡ Some item → IsTrue (is_sound_with self.now item) → IsValidIn self.now result }
+        ensures valid { (item : Item) → last ≡ Some item → IsTrue (is_sound_with self.now item)
+            → IsValidIn self.now result }
     {
         let _open = &self.open;
         PlanItems {

@@ -48,7 +48,8 @@ fn reader_of(rt: &HostRuntime, name: &str) -> Result<Option<Reader>, NoMemory>
     }
 }
 
-/// The input of that name: a file, or standard input for `-`. One that isn't named or can't be opened fails at each read.
+/// The input of that name: a file, or standard input for `-`. One that isn't named or can't be opened fails at each
+/// read.
 pub fn open_input(rt: &HostRuntime, name: &Option<String>) -> Result<StdSource<Reader>, NoMemory>
     ensures unnamed { name.now ≡ None → IfOk result (λ input. IsNone input.reader) }
     ensures stdin { IfOk result (λ input. reads_stdin input.reader ≡ names_stdin (option_map string_bytes name.now)) }

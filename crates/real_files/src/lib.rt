@@ -1,7 +1,8 @@
 //! A program's words, and the files that it reads.
 //!
-//! [`words_of`] gives the words after the program's name, and [`open_input`] opens an input by its name. What can't be opened
-//! fails at each read, and only want of memory stops an opening. Files are the system's: nothing is promised of what they hold.
+//! [`words_of`] gives the words after the program's name, and [`open_input`] opens an input by its name. What can't be
+//! opened fails at each read, and only want of memory stops an opening. Files are the system's: nothing is promised of
+//! what they hold.
 #![tactic(auto)]
 
 mod inputs;

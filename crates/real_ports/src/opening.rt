@@ -49,8 +49,8 @@ fn copy_of(alloc: Global, target: &Target) -> Result<Target, NoMemory>
     }
 }
 
-/// A port that is opened at its first call, and idles at this beat if it is a socket. One that can't be opened fails at
-/// each call.
+/// A port that is opened at its first call, and idles at this beat if it is a socket. One that can't be opened fails
+/// at each call.
 pub fn open_link(rt: &HostRuntime, port: &Port, beat: Beat) -> Result<RealLink, NoMemory>
     ensures opened { IfOk result (λ link. ⟦<RealLink as Link>⟧.state link ≡ just_opened) }
     ensures target { IfOk result (λ link. target_of link ≡ Some (target_text port.now.target)) }

@@ -1,5 +1,7 @@
 -- A hub over memory: what is to happen at it, what its next call returns, and what it holds then.
-use Rattle.std.specs.Prelude.{ℕ, ◌+◌, ◌-◌, ◌==◌, ◌||◌, not, nat_lt, nat_le, ◌&&◌, min, count_by, Bool, true, false, if◌then◌else◌, List, [], ◌∷◌, ◌++◌, length, take, drop, get_or, slice_get, slice_set, None, Some}
+use Rattle.std.specs.Prelude.{ℕ, ◌+◌, ◌-◌, ◌==◌, ◌||◌, not, nat_lt, nat_le, ◌&&◌, min, count_by, Bool, true, false}
+use Rattle.std.specs.Prelude.{if◌then◌else◌, List, [], ◌∷◌, ◌++◌, length, take, drop, get_or, slice_get, slice_set}
+use Rattle.std.specs.Prelude.{None, Some}
 use Rattle.std.specs.Option.{option_map_or}
 use Rattle.std.specs.declared.option.Option.{Option}
 use Rattle.relay_hub.specs.declared.happenings.Happening.{Happening}
@@ -92,7 +94,8 @@ given_at place count s =
 abbrev pub after_read : ℕ → ℕ → MemHubState → MemHubState
 after_read index count s = record s {
   hub = gives index (take count (drop s.at s.bytes)) s.hub;
-  script = option_map_or (λ n. slice_set s.script s.step (Gives index (n - count))) (piece_at index (front s)) s.script;
+  script = option_map_or (λ n. slice_set s.script s.step (Gives index (n - count)))
+      (piece_at index (front s)) s.script;
   at = s.at + count;
 }
 

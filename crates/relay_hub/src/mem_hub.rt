@@ -1,5 +1,6 @@
 // A hub over memory, at which happens what its maker lists.
-ghost use Rattle.std.specs.Prelude.{◌≡◌, ◌+◌, ◌-◌, ◌++◌, ◌<◌, ◌≤◌, drop, get_or, length, min, take, IfOk, IfSome, Some};
+ghost use Rattle.std.specs.Prelude.{◌≡◌, ◌+◌, ◌-◌, ◌++◌, ◌<◌, ◌≤◌, drop, get_or, length, min, take, IfOk, IfSome};
+ghost use Rattle.std.specs.Prelude.{Some};
 ghost use Rattle.relay_hub.specs.Hubs.{AreOpened, adopts, asks, blank, gives, happens, place_of, takes, tape_of};
 ghost use Rattle.relay_hub.specs.MemHubs.{after_read, after_stranger, after_write, front, given_at};
 ghost use Rattle.relay_hub.specs.MemHubs.{hub_from_start, is_over, links_at, most_bytes, news_at, opening_at};
@@ -20,8 +21,8 @@ const MOST_OF_A_PORT: usize = 8;
 // A datagram has at most so many bytes.
 const MOST_BYTES: usize = 65_536;
 
-/// A hub that tells its bytes. What is to happen does so in its order: `next` tells the news of it, reads and strangers
-/// give the bytes, and none of these sees what comes behind another's. What can't happen is passed over.
+/// A hub that tells its bytes. What is to happen does so in its order: `next` tells the news of it, reads and
+/// strangers give the bytes, and none of these sees what comes behind another's. What can't happen is passed over.
 pub struct MemHub {
     tapes: Vec<MemTape>,
     spares: Vec<MemTape>,

@@ -44,18 +44,24 @@ DeliversNew = Delivers [] 0 [] (queue_of [] [])
 
 abbrev pub DeliversPushed : Type 0
 DeliversPushed =
-    (all : List (List ℕ)) (dropped : ℕ) (bytes frame : List ℕ) (queue : QueueState) → Delivers all dropped bytes queue → Delivers (all ++ frame ∷ []) (dropped + drops frame queue) bytes (pushed frame queue)
+    (all : List (List ℕ)) (dropped : ℕ) (bytes frame : List ℕ) (queue : QueueState) → Delivers all dropped bytes queue
+    → Delivers (all ++ frame ∷ []) (dropped + drops frame queue) bytes (pushed frame queue)
 
 abbrev pub DeliversWrote : Type 0
 DeliversWrote =
-    (all : List (List ℕ)) (dropped : ℕ) (bytes : List ℕ) (count : ℕ) (queue : QueueState) → Delivers all dropped bytes queue → Delivers all dropped (bytes ++ take count (next_bytes queue)) (taken count queue)
+    (all : List (List ℕ)) (dropped : ℕ) (bytes : List ℕ) (count : ℕ) (queue : QueueState)
+    → Delivers all dropped bytes queue → Delivers all dropped (bytes ++ take count (next_bytes queue))
+    (taken count queue)
 
 abbrev pub DeliversClosed : Type 0
 DeliversClosed =
-    (all : List (List ℕ)) (dropped : ℕ) (bytes : List ℕ) (queue : QueueState) → Delivers all dropped bytes queue → Delivered all (dropped + count_of queue) bytes
+    (all : List (List ℕ)) (dropped : ℕ) (bytes : List ℕ) (queue : QueueState) → Delivers all dropped bytes queue
+    → Delivered all (dropped + count_of queue) bytes
 
--- the bytes taken, then those of the frame that was begun, and those of the frames that wait are the bytes of the frames
--- that weren't dropped
+-- the bytes taken, then those of the frame that was begun, and those of the frames that wait are the bytes of the
+-- frames that weren't dropped
 abbrev pub DeliversBytes : Type 0
 DeliversBytes =
-    (all : List (List ℕ)) (dropped : ℕ) (bytes : List ℕ) (queue : QueueState) → Delivers all dropped bytes queue → (kept : List (List ℕ)) × LeavesOut dropped all kept × (concat kept ≡ bytes ++ (queue.begun ++ concat queue.waiting))
+    (all : List (List ℕ)) (dropped : ℕ) (bytes : List ℕ) (queue : QueueState) → Delivers all dropped bytes queue
+    → (kept : List (List ℕ)) × LeavesOut dropped all kept
+    × (concat kept ≡ bytes ++ (queue.begun ++ concat queue.waiting))

@@ -1,5 +1,6 @@
 -- A queue of frames that wait to be written.
-use Rattle.std.specs.Prelude.{ℕ, ◌+◌, ◌-◌, ◌==◌, ◌<◌, ◌≤◌, ⊤, nat_lt, Bool, if◌then◌else◌, List, [], ◌∷◌, ◌++◌, length, take, drop}
+use Rattle.std.specs.Prelude.{ℕ, ◌+◌, ◌-◌, ◌==◌, ◌<◌, ◌≤◌, ⊤, nat_lt, Bool, if◌then◌else◌, List, [], ◌∷◌, ◌++◌, length}
+use Rattle.std.specs.Prelude.{take, drop}
 use Rattle.std.specs.List.{concat}
 
 -- what is left of a frame of which a part was written, and the whole frames that wait, the oldest first
@@ -39,11 +40,13 @@ abbrev pub written : ℕ → List (List ℕ) → QueueState
 written count [] = queue_of [] []
 written count (frame ∷ frames) =
     if count == 0 then queue_of [] (frame ∷ frames)
-    else (if nat_lt count (length frame) then queue_of (drop count frame) frames else written (count - length frame) frames)
+    else (if nat_lt count (length frame) then queue_of (drop count frame) frames
+    else written (count - length frame) frames)
 
 -- so many of the bytes that are next
 abbrev pub taken : ℕ → QueueState → QueueState
-taken count queue = if has_begun queue then queue_of (drop count queue.begun) queue.waiting else written count queue.waiting
+taken count queue = if has_begun queue then queue_of (drop count queue.begun) queue.waiting
+    else written count queue.waiting
 
 -- how many frames aren't written to their ends
 abbrev pub count_of : QueueState → ℕ

@@ -1,6 +1,9 @@
 // Frames that wait, however many.
-ghost use Rattle.std.specs.Prelude.{◌≡◌, ◌+◌, ◌-◌, ◌*◌, ◌<◌, ◌≤◌, ◌∷◌, ◌++◌, [], ℕ, List, length, drop, IfOk, OnOk, OnErr, IfSome, OnSome, Some, None, true, slice_range, vec_len, vec_capacity, ◌^◌, false, nat_lt};
-ghost use Rattle.relay_queue.specs.Queues.{QueueState, count_of, has_begun, newest, next_bytes, pushed, queue_limit, queue_of, size_of, taken, written};
+ghost use Rattle.std.specs.Prelude.{◌≡◌, ◌+◌, ◌-◌, ◌*◌, ◌<◌, ◌≤◌, ◌∷◌, ◌++◌, [], ℕ, List, length, drop, IfOk, OnOk};
+ghost use Rattle.std.specs.Prelude.{OnErr, IfSome, OnSome, Some, None, true, slice_range, vec_len, vec_capacity, ◌^◌};
+ghost use Rattle.std.specs.Prelude.{false, nat_lt};
+ghost use Rattle.relay_queue.specs.Queues.{QueueState, count_of, has_begun, newest, next_bytes, pushed, queue_limit};
+ghost use Rattle.relay_queue.specs.Queues.{queue_of, size_of, taken, written};
 
 use crate::NoMemory;
 use std::alloc::Global;
@@ -49,7 +52,8 @@ impl Model for Backlog {
     } };
 
     ghost invariant = { λ q. (q.from ≤ vec_len q.part) × (vec_len q.part ≤ 280) × (280 ≤ vec_capacity q.part)
-        × (q.start + total q.sizes.items ≡ length q.bytes.items) × AreFrames q.sizes.items × (length q.bytes.items ≤ 2097432) };
+        × (q.start + total q.sizes.items ≡ length q.bytes.items) × AreFrames q.sizes.items
+        × (length q.bytes.items ≤ 2097432) };
 }
 
 // A part of some bytes takes the place of what is in a list with room for it.
@@ -147,7 +151,8 @@ impl Backlog {
     // The size of the oldest waiting frame.
     fn first_size(&self) -> Option<usize>
         ensures none { result ≡ None → self.now.waiting ≡ [] }
-        ensures size { IfSome result (λ size. (frame : List ℕ) (frames : List (List ℕ)) → self.now.waiting ≡ frame ∷ frames → size ≡ length frame) }
+        ensures size { IfSome result (λ size. (frame : List ℕ) (frames : List (List ℕ))
+            → self.now.waiting ≡ frame ∷ frames → size ≡ length frame) }
         ensures some { OnSome result (0 < length self.now.waiting) }
     {
         let Some(size) = self.sizes.front() else {
@@ -166,8 +171,8 @@ impl Backlog {
         self.start += usize::from(size);
     }
 
-    /// Has a frame of at most 280 bytes wait, and returns how many of the oldest waiting ones were dropped to make room for
-    /// it. Without memory nothing changes.
+    /// Has a frame of at most 280 bytes wait, and returns how many of the oldest waiting ones were dropped to make
+    /// room for it. Without memory nothing changes.
     pub(crate) fn push(&mut self, frame: &[u8]) -> Result<usize, NoMemory>
         requires some { 0 < length frame.now }
         requires few { length frame.now ≤ 280 }
@@ -197,7 +202,8 @@ impl Backlog {
 
     // Drops the oldest waiting frames until there is room for the others, and returns how many.
     fn drop_oldest(&mut self) -> usize
-        ensures queue { self.new ≡ queue_of self.old.begun (newest (queue_limit - length self.old.begun) self.old.waiting) }
+        ensures queue { self.new ≡ queue_of self.old.begun
+            (newest (queue_limit - length self.old.begun) self.old.waiting) }
         ensures dropped { result + length self.new.waiting ≡ length self.old.waiting }
     {
         let before = self.waiting();
@@ -249,7 +255,8 @@ impl Backlog {
     // So many bytes of the oldest waiting frame were written, and not all.
     fn begin(&mut self, count: usize)
         requires none { has_begun self.old ≡ false }
-        requires part { (frame : List ℕ) (frames : List (List ℕ)) → self.old.waiting ≡ frame ∷ frames → count < length frame }
+        requires part { (frame : List ℕ) (frames : List (List ℕ)) → self.old.waiting ≡ frame ∷ frames
+            → count < length frame }
         ensures { (frame : List ℕ) (frames : List (List ℕ)) → self.old.waiting ≡ frame ∷ frames
             → self.new ≡ queue_of (drop count frame) frames }
     {

@@ -61,8 +61,8 @@ impl Queue {
         self.frames.next_bytes()
     }
 
-    /// Has a frame of at most 280 bytes wait, and returns how many of the oldest waiting ones were dropped to make room for
-    /// it. Without memory nothing changes.
+    /// Has a frame of at most 280 bytes wait, and returns how many of the oldest waiting ones were dropped to make
+    /// room for it. Without memory nothing changes.
     pub fn push(&mut self, frame: &[u8]) -> Result<usize, NoMemory>
         requires some { 0 < length frame.now }
         requires few { length frame.now ≤ 280 }

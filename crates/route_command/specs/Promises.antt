@@ -11,12 +11,15 @@ use Rattle.run_status.specs.Endings.{code_of, live_text}
 use Rattle.route_command.specs.Texts.{route_text}
 use Rattle.route_command.specs.Routes.{Ports, Routed, Halted, has_turns, status_text, Routes}
 
-pub record RoutePromises (p : Ports) (refusals_before refusals_after : ℕ) (sent_before sent_after : Option (List ℕ)) (code : ℕ) : Type 0 where
+pub record RoutePromises (p : Ports) (refusals_before refusals_after : ℕ) (sent_before sent_after : Option (List ℕ))
+    (code : ℕ) : Type 0 where
   -- 0: each port ended or failed, and the report was written
-  pub done : code ≡ 0 → (journal : List Entry) × (ends : List PortEnd) × Routed p journal ends × (has_turns ends ≡ false)
+  pub done : code ≡ 0 → (journal : List Entry) × (ends : List PortEnd) × Routed p journal ends
+      × (has_turns ends ≡ false)
       × (sent_after ≡ append_known sent_before (route_text journal ends))
   -- 11: some port hadn't ended after as many reads as it may have
-  pub turns_spent : code ≡ 11 → (journal : List Entry) × (ends : List PortEnd) × Routed p journal ends × (has_turns ends ≡ true)
+  pub turns_spent : code ≡ 11 → (journal : List Entry) × (ends : List PortEnd) × Routed p journal ends
+      × (has_turns ends ≡ true)
       × (sent_after ≡ append_known sent_before (route_text journal ends ++ live_text (PortTurns p.most)))
   -- 6: more frames came in than a journal may have
   pub limit : code ≡ 6 → (journal : List Entry) × Halted p (Full 1000000) journal × (length journal ≡ 1000000)
@@ -26,4 +29,5 @@ pub record RoutePromises (p : Ports) (refusals_before refusals_after : ℕ) (sen
   -- there is no other status but that of want of memory
   pub only : (code ≡ 0) ⊎ ((code ≡ 11) ⊎ ((code ≡ 6) ⊎ ((code ≡ 5) ⊎ (code ≡ 7))))
   -- all of it, of one run
-  pub run : (end : Option RunEnd) × (code ≡ code_of end) × Routes p status_text end refusals_before refusals_after sent_before sent_after
+  pub run : (end : Option RunEnd) × (code ≡ code_of end)
+      × Routes p status_text end refusals_before refusals_after sent_before sent_after

@@ -1,5 +1,6 @@
 -- What a run of `route` has done at its ports, why it ends, and what it writes.
-use Rattle.std.specs.Prelude.{ℕ, ◌≡◌, ◌⊎◌, Bool, true, false, if◌then◌else◌, List, [], ◌++◌, length, Option, Some, None}
+use Rattle.std.specs.Prelude.{ℕ, ◌≡◌, ◌⊎◌, Bool, true, false, if◌then◌else◌, List, [], ◌++◌, length, Option, Some}
+use Rattle.std.specs.Prelude.{None}
 use Rattle.std.specs.List.{list_any}
 use Rattle.std.specs.Io.KnownBytes.{append_known}
 use Rattle.mav_ports.specs.Counts.{Rose}
@@ -21,8 +22,8 @@ use Rattle.run_status.specs.declared.run_ends.RunEnd.TheVariants.{Stopped, Write
 use Rattle.run_status.specs.Endings.{text_of}
 use Rattle.route_command.specs.Texts.{route_text}
 
--- the ports before and after a run on one thread or with one for each, of which at most so many reads each may give bytes
--- or return Idle
+-- the ports before and after a run on one thread or with one for each, of which at most so many reads each may give
+-- bytes or return Idle
 pub record Ports : Type 1 where
   pub Port : Type 0
   pub state : Port → LinkState
@@ -86,23 +87,31 @@ abbrev pub untold : Option RunEnd → List ℕ
 untold end = []
 
 -- a run that came to its end at the ports and wrote its report, with what is told of its end
-pub record Reports (p : Ports) (told : Option RunEnd → List ℕ) (end : Option RunEnd) (refusals_before refusals_after : ℕ) (sent_before sent_after : Option (List ℕ)) : Type 0 where
+pub record Reports (p : Ports) (told : Option RunEnd → List ℕ) (end : Option RunEnd)
+    (refusals_before refusals_after : ℕ) (sent_before sent_after : Option (List ℕ)) : Type 0 where
   pub journal : List Entry
   pub ends : List PortEnd
   pub routed : Routed p journal ends
-  pub wrote : WroteAll (end_of_ports p.most ends) end (route_text journal ends ++ told (end_of_ports p.most ends)) refusals_before refusals_after sent_before sent_after
+  pub wrote : WroteAll (end_of_ports p.most ends) end
+      (route_text journal ends ++ told (end_of_ports p.most ends)) refusals_before refusals_after sent_before
+      sent_after
 
 -- one that stopped before that, which writes no report
-pub record Stops (p : Ports) (told : Option RunEnd → List ℕ) (end : Option RunEnd) (refusals_before refusals_after : ℕ) (sent_before sent_after : Option (List ℕ)) : Type 0 where
+pub record Stops (p : Ports) (told : Option RunEnd → List ℕ) (end : Option RunEnd) (refusals_before refusals_after : ℕ)
+    (sent_before sent_after : Option (List ℕ)) : Type 0 where
   pub journal : List Entry
   pub why : SwitchFault
   pub halted : Halted p why journal
-  pub wrote : WroteAll (Some (end_of_fault why)) end (told (Some (end_of_fault why))) refusals_before refusals_after sent_before sent_after
+  pub wrote : WroteAll (Some (end_of_fault why)) end
+      (told (Some (end_of_fault why))) refusals_before refusals_after sent_before sent_after
 
-abbrev pub Routes : Ports → (Option RunEnd → List ℕ) → Option RunEnd → ℕ → ℕ → Option (List ℕ) → Option (List ℕ) → Type 0
+abbrev pub Routes : Ports → (Option RunEnd → List ℕ) → Option RunEnd → ℕ → ℕ → Option (List ℕ) → Option (List ℕ)
+    → Type 0
 Routes p told end refusals_before refusals_after sent_before sent_after =
-    Reports p told end refusals_before refusals_after sent_before sent_after ⊎ Stops p told end refusals_before refusals_after sent_before sent_after
+    Reports p told end refusals_before refusals_after sent_before sent_after
+    ⊎ Stops p told end refusals_before refusals_after sent_before sent_after
 
 -- the run before the text of its status is written
 abbrev pub RoutesBeforeStatus : Ports → Option RunEnd → ℕ → ℕ → Option (List ℕ) → Option (List ℕ) → Type 0
-RoutesBeforeStatus p end refusals_before refusals_after sent_before sent_after = Routes p untold end refusals_before refusals_after sent_before sent_after
+RoutesBeforeStatus p end refusals_before refusals_after sent_before sent_after =
+    Routes p untold end refusals_before refusals_after sent_before sent_after

@@ -1,11 +1,13 @@
 // The lines of the frames that came in.
-ghost use Rattle.std.specs.Prelude.{◌≡◌, ◌≤◌, ◌<◌, ◌+◌, ◌-◌, ◌∷◌, ◌++◌, ◌⊎◌, ℕ, Bool, List, [], codes, take, OnOk, IfErr, IsErrOf, false};
+ghost use Rattle.std.specs.Prelude.{◌≡◌, ◌≤◌, ◌<◌, ◌+◌, ◌-◌, ◌∷◌, ◌++◌, ◌⊎◌, ℕ, Bool, List, [], codes, take, OnOk};
+ghost use Rattle.std.specs.Prelude.{IfErr, IsErrOf, false};
 ghost use Rattle.std.specs.Fmt.{decimal};
 ghost use Rattle.std.specs.declared.option.Option.{Option};
 ghost use Rattle.mav_ports.specs.Counts.{Rose};
 ghost use Rattle.mav_ports.specs.Puts.{Sent, SentPrefix};
 ghost use Rattle.mav_sign.specs.History.{is_admitted};
-ghost use Rattle.route_command.specs.Texts.{ports_text, fate_text, frame_text, source_text, entry_line, entry_lines, link_of, stamp_of};
+ghost use Rattle.route_command.specs.Texts.{ports_text, fate_text, frame_text, source_text, entry_line, entry_lines};
+ghost use Rattle.route_command.specs.Texts.{link_of, stamp_of};
 
 use crate::port_texts::put_further_ports;
 use link_table::Ways;

@@ -1,5 +1,6 @@
 // The command `route`, with the key and the definitions that its line names.
-ghost use Rattle.std.specs.Prelude.{◌≡◌, ◌≤◌, ◌-◌, if◌then◌else◌, true, false, slice_set, map, string_bytes, length, IsErr, IsErrOf};
+ghost use Rattle.std.specs.Prelude.{◌≡◌, ◌≤◌, ◌-◌, if◌then◌else◌, true, false, slice_set, map, string_bytes, length};
+ghost use Rattle.std.specs.Prelude.{IsErr, IsErrOf};
 ghost use Rattle.std.specs.Result.{result_err};
 ghost use Rattle.command_line.specs.Forms.{has_given};
 ghost use Rattle.command_line.specs.Lines.{given_of, asked_by};
@@ -57,7 +58,8 @@ pub fn run_route<T: Router, S: Source, K: Sink>(
     ensures routed { Routing (has_given OptionName.Defs (map given_of line.now.settings.items))
         (before_status_over (output_of K.faults K.sent out.old out.new) (result_err result)) (IsErr result)
         (ports.new ≡ ports.old)
-        (λ key known. RoutesBeforeStatus (router_of state (asked_by line.now) ports.old.items ports.new.items key known)
+        (λ key known. RoutesBeforeStatus (router_of state
+        (asked_by line.now) ports.old.items ports.new.items key known)
         (result_err result) (K.faults out.old) (K.faults out.new) (K.sent out.old) (K.sent out.new))
         (input_of S.has_ended S.faults S.idles S.left inputs.old.key inputs.new.key)
         (input_of S.has_ended S.faults S.idles S.left inputs.old.defs inputs.new.defs) }

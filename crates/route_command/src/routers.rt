@@ -18,8 +18,8 @@ pub trait Router {
     // Whether it starts no thread, whatever the plan says.
     ghost alone: { Bool };
 
-    /// Routes between the ports, and returns what came in and what became of each port. A run that stops gives back its
-    /// journal so far.
+    /// Routes between the ports, and returns what came in and what became of each port. A run that stops gives back
+    /// its journal so far.
     fn route_ports(
         &self,
         alloc: Global,

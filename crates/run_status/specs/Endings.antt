@@ -2,19 +2,26 @@
 use Rattle.std.specs.Prelude.{ℕ, List, [], ◌++◌, codes, Option, Some, None}
 use Rattle.std.specs.Fmt.{decimal}
 use Rattle.scenario_lines.specs.declared.faults.Reason.{Reason as LineReason}
-use Rattle.scenario_lines.specs.declared.faults.Reason.TheVariants.{Long, Word, Later, Count, Number, Node, Kind, Hex, Twice, Range, Draft, Clock}
+use Rattle.scenario_lines.specs.declared.faults.Reason.TheVariants.{Long, Word, Later, Count, Number, Node, Kind, Hex}
+use Rattle.scenario_lines.specs.declared.faults.Reason.TheVariants.{Twice, Range, Draft, Clock}
 use Rattle.run_status.specs.declared.input_errors.Place.{Place}
-use Rattle.run_status.specs.declared.input_errors.Place.TheVariants.{Line as AtLine, Key as KeyPlace, Definitions, Operation, Store, Fence, Mission}
+use Rattle.run_status.specs.declared.input_errors.Place.TheVariants.{Line as AtLine, Key as KeyPlace, Definitions}
+use Rattle.run_status.specs.declared.input_errors.Place.TheVariants.{Operation, Store, Fence, Mission}
 use Rattle.run_status.specs.declared.input_errors.Reason.{Reason}
-use Rattle.run_status.specs.declared.input_errors.Reason.TheVariants.{Line as OfLine, Key, Json, Shape, FieldType, Name, TwiceId, TwiceName, Layout, TooMany, Refused, Kept, Plan}
+use Rattle.run_status.specs.declared.input_errors.Reason.TheVariants.{Line as OfLine, Key, Json, Shape, FieldType}
+use Rattle.run_status.specs.declared.input_errors.Reason.TheVariants.{Name, TwiceId, TwiceName, Layout, TooMany}
+use Rattle.run_status.specs.declared.input_errors.Reason.TheVariants.{Refused, Kept, Plan}
 use Rattle.run_status.specs.declared.input_errors.Bound.{Bound}
-use Rattle.run_status.specs.declared.input_errors.Bound.TheVariants.{Lines, Frames, Drones, Stations, Restarts, DefinitionBytes, InputBytes, Entries}
+use Rattle.run_status.specs.declared.input_errors.Bound.TheVariants.{Lines, Frames, Drones, Stations, Restarts}
+use Rattle.run_status.specs.declared.input_errors.Bound.TheVariants.{DefinitionBytes, InputBytes, Entries}
 use Rattle.run_status.specs.declared.input_errors.InputError.{InputError}
 use Rattle.run_status.specs.declared.input_errors.InputError.TheVariants.{Bad, AtLimit, StampsSpent}
 use Rattle.run_status.specs.declared.live_ends.LiveEnd.{LiveEnd}
-use Rattle.run_status.specs.declared.live_ends.LiveEnd.TheVariants.{RefusedWith, NoAnswer, StoreFault, PortTurns, PortFault}
+use Rattle.run_status.specs.declared.live_ends.LiveEnd.TheVariants.{RefusedWith, NoAnswer, StoreFault, PortTurns}
+use Rattle.run_status.specs.declared.live_ends.LiveEnd.TheVariants.{PortFault}
 use Rattle.run_status.specs.declared.run_ends.RunEnd.{RunEnd}
-use Rattle.run_status.specs.declared.run_ends.RunEnd.TheVariants.{Usage, Stopped, ReadFault, WriteFault, NoMemory, TurnsSpent, Live}
+use Rattle.run_status.specs.declared.run_ends.RunEnd.TheVariants.{Usage, Stopped, ReadFault, WriteFault, NoMemory}
+use Rattle.run_status.specs.declared.run_ends.RunEnd.TheVariants.{TurnsSpent, Live}
 
 abbrev pub line_word : LineReason → List ℕ
 line_word Long = codes "long"
@@ -66,7 +73,8 @@ place_text Fence = codes "fence"
 place_text Mission = codes "mission"
 
 abbrev pub error_text : InputError → List ℕ
-error_text (Bad place reason) = codes "bad " ++ (place_text place ++ (codes ": " ++ (reason_word reason ++ codes "\n")))
+error_text (Bad place reason) = codes "bad "
+    ++ (place_text place ++ (codes ": " ++ (reason_word reason ++ codes "\n")))
 error_text (AtLimit limit) = codes "limit " ++ (bound_words limit ++ codes "\n")
 error_text StampsSpent = codes "stamps spent\n"
 

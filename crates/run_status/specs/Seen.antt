@@ -58,18 +58,26 @@ output_of faults sent old new = record {
 }
 
 abbrev pub around : Input → Output → PortOutcome
-around input out = port_outcome input.spent input.faults_before input.faults_after input.idles_before input.idles_after out.refusals_before out.refusals_after
+around input out = port_outcome input.spent input.faults_before input.faults_after input.idles_before input.idles_after
+    out.refusals_before out.refusals_after
 
 -- a command's run over an input, before the text of its status
 abbrev pub before_status_over : Output → Option RunEnd → CommandSpec → Input → Type 0
-before_status_over out end s input = RunBeforeStatus s (around input out) input.left_before input.left_after out.sent_before out.sent_after end
+before_status_over out end s input = RunBeforeStatus s
+    (around input out) input.left_before input.left_after out.sent_before out.sent_after end
 
 -- what is promised of a command's run over an input
 abbrev pub promised_over : Output → ℕ → CommandSpec → Input → Type 0
-promised_over out code s input = Promises s (around input out) input.left_before input.left_after out.sent_before out.sent_after code
+promised_over out code s input = Promises s
+    (around input out) input.left_before input.left_after out.sent_before out.sent_after code
 
 -- a run that halted at an input, with nothing written
 abbrev pub halted_over : CommandSpec → Input → RunEnd → Type 0
 halted_over s input end =
     (refusals : ℕ) (sent : Option (List ℕ))
-    → before_status_over (record { refusals_before = refusals; refusals_after = refusals; sent_before = sent; sent_after = sent }) (Some end) s input
+    → before_status_over (record {
+      refusals_before = refusals;
+      refusals_after = refusals;
+      sent_before = sent;
+      sent_after = sent;
+    }) (Some end) s input

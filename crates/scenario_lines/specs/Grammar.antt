@@ -1,15 +1,20 @@
 -- The grammar of scenario lines: the form of each line, the first reason against a line, and what a line
 -- says if there is none.
-use Rattle.std.specs.Prelude.{ℕ, ℤ, pos, ◌+◌, ◌-◌, ◌^◌, ◌==◌, ◌||◌, nat_lt, Bool, true, false, if◌then◌else◌, is_some, List, [], ◌∷◌, ◌++◌, length, codes, Option, Some, None, unwrap_or}
+use Rattle.std.specs.Prelude.{ℕ, ℤ, pos, ◌+◌, ◌-◌, ◌^◌, ◌==◌, ◌||◌, nat_lt, Bool, true, false, if◌then◌else◌, is_some}
+use Rattle.std.specs.Prelude.{List, [], ◌∷◌, ◌++◌, length, codes, Option, Some, None, unwrap_or}
 use Rattle.std.specs.Str.{bytes_eq}
 use Rattle.mav_names.specs.declared.names.Name.{Name}
 use Rattle.plan_items.specs.declared.items.Item.{Item}
 use Rattle.plan_items.specs.declared.kinds.PlanKind.{PlanKind}
 use Rattle.plan_items.specs.declared.kinds.PlanKind.TheVariants.{Mission, Fence, Rally}
 use Rattle.scenario_lines.specs.declared.faults.Reason.{Reason}
-use Rattle.scenario_lines.specs.declared.faults.Reason.TheVariants.{Number, Node as NodeReason, Kind as KindReason, Hex}
+use Rattle.scenario_lines.specs.declared.faults.Reason.TheVariants.{Number, Node as NodeReason, Kind as KindReason}
+use Rattle.scenario_lines.specs.declared.faults.Reason.TheVariants.{Hex}
 use Rattle.scenario_lines.specs.declared.lines.Line.{Line}
-use Rattle.scenario_lines.specs.declared.lines.Line.TheVariants.{Blank, Drone, Station, Item as OneItem, Items, Empty, Begin, Cancel, Clear, Get, Command, Params, Heartbeat, Deliver, Flow, Noise, Tick, Clock, Restart, Sim, WhereIs}
+use Rattle.scenario_lines.specs.declared.lines.Line.TheVariants.{Blank, Drone, Station, Item as OneItem, Items, Empty}
+use Rattle.scenario_lines.specs.declared.lines.Line.TheVariants.{Begin, Cancel, Clear, Get, Command, Params, Heartbeat}
+use Rattle.scenario_lines.specs.declared.lines.Line.TheVariants.{Deliver, Flow, Noise, Tick, Clock, Restart, Sim}
+use Rattle.scenario_lines.specs.declared.lines.Line.TheVariants.{WhereIs}
 use Rattle.scenario_lines.specs.declared.naming.Named.{Named}
 use Rattle.scenario_lines.specs.Words.{words_of, word_at, number_in, integer_of, wire_word, bytes_word, name_of_word}
 use Rattle.scenario_lines.specs.LineContext.{has_name, has_drone, has_station}
@@ -49,7 +54,8 @@ item_words = (Wire ∷ []) ∷ (Wire ∷ []) ∷ (Wire ∷ []) ∷ (Wire ∷ [])
 abbrev pub form_of : List ℕ → Option Form
 form_of word =
     -- drone SYS [X Y]
-    if bytes_eq word (codes "drone") then Some (record { needed = Whole 1 255 ∷ []; further = (Signed ∷ Signed ∷ []) ∷ [] })
+    if bytes_eq word (codes "drone") then Some
+    (record { needed = Whole 1 255 ∷ []; further = (Signed ∷ Signed ∷ []) ∷ [] })
     -- station SYS COMP
     else if bytes_eq word (codes "station") then form (Whole 1 255 ∷ Whole 1 255 ∷ [])
     -- item F C X Y [Z [P1 [P2 [P3 [P4]]]]]
@@ -57,7 +63,10 @@ form_of word =
     then Some (record { needed = Whole 0 255 ∷ Whole 0 65535 ∷ Signed ∷ Signed ∷ []; further = item_words })
     -- items N F C X Y [Z [P1 [P2 [P3 [P4]]]]]
     else if bytes_eq word (codes "items")
-    then Some (record { needed = Whole 1 2000 ∷ Whole 0 255 ∷ Whole 0 65535 ∷ Signed ∷ Signed ∷ []; further = item_words })
+    then Some (record {
+      needed = Whole 1 2000 ∷ Whole 0 255 ∷ Whole 0 65535 ∷ Signed ∷ Signed ∷ [];
+      further = item_words;
+    })
     -- empty
     else if bytes_eq word (codes "empty") then form []
     -- begin STATION DRONE KIND
@@ -139,7 +148,8 @@ reason_for Digits = Hex
 -- the first of the arguments, from left to right, that its word doesn't fit; the first one is word `k`
 abbrev pub misfit : List Named → List Argument → List (List ℕ) → ℕ → Option Reason
 misfit nodes [] words k = None
-misfit nodes (a ∷ more) words k = if fits nodes a (word_at words k) then misfit nodes more words (k + 1) else Some (reason_for a)
+misfit nodes (a ∷ more) words k = if fits nodes a (word_at words k) then misfit nodes more words (k + 1)
+    else Some (reason_for a)
 
 -- the number of words is one that the form allows, after `n` words that are there already
 abbrev pub may_count : ℕ → List (List Argument) → ℕ → Bool
@@ -152,7 +162,8 @@ counts f count = may_count (length f.needed + 1) f.further count
 -- the arguments of a form at a number of words
 abbrev pub further_arguments : ℕ → List (List Argument) → ℕ → List Argument
 further_arguments n [] count = []
-further_arguments n (group ∷ groups) count = if nat_lt n count then group ++ further_arguments (n + length group) groups count else []
+further_arguments n (group ∷ groups) count = if nat_lt n count
+    then group ++ further_arguments (n + length group) groups count else []
 
 abbrev pub arguments_at : Form → ℕ → List Argument
 arguments_at f count = f.needed ++ further_arguments (length f.needed + 1) f.further count
@@ -214,7 +225,8 @@ line_from words =
     else if bytes_eq first (codes "cancel") then Cancel (name_at words 1)
     else if bytes_eq first (codes "clear") then Clear (name_at words 1) (name_at words 2) (kind_or_all_at words 3)
     else if bytes_eq first (codes "get") then Get (name_at words 1) (name_at words 2) (kind_at words 3)
-    else if bytes_eq first (codes "command") then Command (name_at words 1) (name_at words 2) (whole_at words 3) (wire_at words 4)
+    else if bytes_eq first (codes "command")
+    then Command (name_at words 1) (name_at words 2) (whole_at words 3) (wire_at words 4)
     else if bytes_eq first (codes "params") then Params (name_at words 1) (name_at words 2)
     else if bytes_eq first (codes "heartbeat") then Heartbeat (name_at words 1)
     else if bytes_eq first (codes "deliver") then Deliver (whole_at words 1) (name_at words 2)

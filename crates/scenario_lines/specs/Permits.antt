@@ -2,7 +2,10 @@
 -- nothing known of the world against them.
 use Rattle.std.specs.Prelude.{◌≡◌, ◌≤◌, IsTrue, None, length}
 use Rattle.scenario_lines.specs.declared.lines.Line.{Line}
-use Rattle.scenario_lines.specs.declared.lines.Line.TheVariants.{Blank, Drone, Station, Item as OneItem, Items, Empty, Begin, Cancel, Clear, Get, Command, Params, Heartbeat, Deliver, Flow, Noise, Tick, Clock, Restart, Sim, WhereIs}
+use Rattle.scenario_lines.specs.declared.lines.Line.TheVariants.{Blank, Drone, Station, Item as OneItem, Items, Empty}
+use Rattle.scenario_lines.specs.declared.lines.Line.TheVariants.{Begin, Cancel, Clear, Get, Command, Params, Heartbeat}
+use Rattle.scenario_lines.specs.declared.lines.Line.TheVariants.{Deliver, Flow, Noise, Tick, Clock, Restart, Sim}
+use Rattle.scenario_lines.specs.declared.lines.Line.TheVariants.{WhereIs}
 use Rattle.scenario_lines.specs.LineContext.{LineContext, has_name, has_drone, has_station}
 use Rattle.scenario_lines.specs.Grammar.{most_sim_ticks}
 use Rattle.scenario_lines.specs.Reasons.{state_reason}
@@ -19,7 +22,8 @@ IsInRange s (Begin station drone kind) = IsTrue (has_station s.nodes station) ×
 IsInRange s (Cancel station) = IsTrue (has_station s.nodes station)
 IsInRange s (Clear station drone kind) = IsTrue (has_station s.nodes station) × IsTrue (has_drone s.nodes drone)
 IsInRange s (Get station drone kind) = IsTrue (has_station s.nodes station) × IsTrue (has_drone s.nodes drone)
-IsInRange s (Command station drone number word) = IsTrue (has_station s.nodes station) × IsTrue (has_drone s.nodes drone)
+IsInRange s (Command station drone number word) = IsTrue (has_station s.nodes station)
+    × IsTrue (has_drone s.nodes drone)
 IsInRange s (Params station drone) = IsTrue (has_station s.nodes station) × IsTrue (has_drone s.nodes drone)
 IsInRange s (Heartbeat node) = IsTrue (has_name s.nodes node)
 IsInRange s (Deliver i node) = (1 ≤ i) × IsTrue (has_name s.nodes node)

@@ -1,21 +1,28 @@
 -- What the reader of each form returns, word by word from left to right.
-use Rattle.std.specs.Prelude.{◌≡◌, ℕ, ℤ, pos, ◌+◌, ◌==◌, ◌||◌, not, nat_lt, Bool, if◌then◌else◌, List, [], ◌∷◌, length, Option, Some, None, Ok, Err}
+use Rattle.std.specs.Prelude.{◌≡◌, ℕ, ℤ, pos, ◌+◌, ◌==◌, ◌||◌, not, nat_lt, Bool, if◌then◌else◌, List, [], ◌∷◌, length}
+use Rattle.std.specs.Prelude.{Option, Some, None, Ok, Err}
 use Rattle.std.specs.declared.result.Result.{Result}
 use Rattle.std.specs.Option.{ok_or}
 use Rattle.mav_names.specs.declared.names.Name.{Name}
 use Rattle.plan_items.specs.declared.items.Item.{Item}
 use Rattle.plan_items.specs.declared.kinds.PlanKind.{PlanKind}
 use Rattle.scenario_lines.specs.declared.faults.Reason.{Reason}
-use Rattle.scenario_lines.specs.declared.faults.Reason.TheVariants.{Count, Number, Node as NodeReason, Kind as KindReason, Hex, Twice, Range, Draft, Clock as ClockReason}
+use Rattle.scenario_lines.specs.declared.faults.Reason.TheVariants.{Count, Number, Node as NodeReason}
+use Rattle.scenario_lines.specs.declared.faults.Reason.TheVariants.{Kind as KindReason, Hex, Twice, Range, Draft}
+use Rattle.scenario_lines.specs.declared.faults.Reason.TheVariants.{Clock as ClockReason}
 use Rattle.scenario_lines.specs.declared.faults.LineFault.{LineFault}
 use Rattle.scenario_lines.specs.declared.faults.LineFault.TheVariants.{Bad, NoMemory}
 use Rattle.scenario_lines.specs.declared.lines.Line.{Line}
-use Rattle.scenario_lines.specs.declared.lines.Line.TheVariants.{Drone, Station, Item as OneItem, Items, Empty, Begin, Cancel, Clear, Get, Command, Params, Heartbeat, Deliver, Flow, Noise, Tick, Clock, Restart, Sim, WhereIs}
+use Rattle.scenario_lines.specs.declared.lines.Line.TheVariants.{Drone, Station, Item as OneItem, Items, Empty, Begin}
+use Rattle.scenario_lines.specs.declared.lines.Line.TheVariants.{Cancel, Clear, Get, Command, Params, Heartbeat}
+use Rattle.scenario_lines.specs.declared.lines.Line.TheVariants.{Deliver, Flow, Noise, Tick, Clock, Restart, Sim}
+use Rattle.scenario_lines.specs.declared.lines.Line.TheVariants.{WhereIs}
 use Rattle.scenario_lines.specs.declared.naming.Named.{Named}
 use Rattle.scenario_lines.specs.Words.{word_at, number_in, integer_of, wire_word, bytes_word, name_of_word}
 use Rattle.mav_names.specs.Addresses.{drone_name}
 use Rattle.scenario_lines.specs.LineContext.{LineContext, has_name, has_drone, has_station}
-use Rattle.scenario_lines.specs.Grammar.{form_of, kind_word, kind_or_all, line_from, most_whole, most_sim_ticks, most_draft, most_clock}
+use Rattle.scenario_lines.specs.Grammar.{form_of, kind_word, kind_or_all, line_from, most_whole, most_sim_ticks}
+use Rattle.scenario_lines.specs.Grammar.{most_draft, most_clock}
 use Rattle.scenario_lines.specs.Reasons.{leaves_range, words_reason, item_words_reason}
 
 -- a value, unless there is a reason against it
@@ -142,7 +149,8 @@ read_begin nodes words =
     Ok (Begin station drone kind)))))
 
 abbrev pub read_cancel : List Named → List (List ℕ) → Result Line Reason
-read_cancel nodes words = of_words 2 words (and_then (named (has_station nodes) words 1) (λ station. Ok (Cancel station)))
+read_cancel nodes words = of_words 2 words
+    (and_then (named (has_station nodes) words 1) (λ station. Ok (Cancel station)))
 
 abbrev pub read_clear : List Named → List (List ℕ) → Result Line Reason
 read_clear nodes words =

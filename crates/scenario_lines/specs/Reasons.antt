@@ -1,15 +1,21 @@
 -- The first reason against a line, by what is known of the world.
-use Rattle.std.specs.Prelude.{ℕ, ℤ, pos, negsuc, ◌+◌, ◌-◌, ◌^◌, ◌||◌, ◌+ℤ◌, not, nat_lt, nat_le, Bool, false, if◌then◌else◌, List, [], length, codes, Option, Some, None}
+use Rattle.std.specs.Prelude.{ℕ, ℤ, pos, negsuc, ◌+◌, ◌-◌, ◌^◌, ◌||◌, ◌+ℤ◌, not, nat_lt, nat_le, Bool, false}
+use Rattle.std.specs.Prelude.{if◌then◌else◌, List, [], length, codes, Option, Some, None}
 use Rattle.std.specs.Str.{bytes_eq}
 use Rattle.plan_items.specs.declared.items.Item.{Item}
 use Rattle.scenario_lines.specs.declared.faults.Reason.{Reason}
-use Rattle.scenario_lines.specs.declared.faults.Reason.TheVariants.{Long, Word, Count, Twice, Range, Draft, Clock as ClockReason}
+use Rattle.scenario_lines.specs.declared.faults.Reason.TheVariants.{Long, Word, Count, Twice, Range, Draft}
+use Rattle.scenario_lines.specs.declared.faults.Reason.TheVariants.{Clock as ClockReason}
 use Rattle.scenario_lines.specs.declared.lines.Line.{Line}
-use Rattle.scenario_lines.specs.declared.lines.Line.TheVariants.{Blank, Drone, Station, Item as OneItem, Items, Empty, Begin, Cancel, Clear, Get, Command, Params, Heartbeat, Deliver, Flow, Noise, Tick, Clock, Restart, Sim, WhereIs}
+use Rattle.scenario_lines.specs.declared.lines.Line.TheVariants.{Blank, Drone, Station, Item as OneItem, Items, Empty}
+use Rattle.scenario_lines.specs.declared.lines.Line.TheVariants.{Begin, Cancel, Clear, Get, Command, Params, Heartbeat}
+use Rattle.scenario_lines.specs.declared.lines.Line.TheVariants.{Deliver, Flow, Noise, Tick, Clock, Restart, Sim}
+use Rattle.scenario_lines.specs.declared.lines.Line.TheVariants.{WhereIs}
 use Rattle.scenario_lines.specs.Words.{words_of, word_at}
 use Rattle.mav_names.specs.Addresses.{drone_name}
 use Rattle.scenario_lines.specs.LineContext.{LineContext, context_of, has_name}
-use Rattle.scenario_lines.specs.Grammar.{Form, form_of, counts, arguments_at, misfit, first_reason, against, line_from, is_blank, most_line_bytes, most_draft, most_clock}
+use Rattle.scenario_lines.specs.Grammar.{Form, form_of, counts, arguments_at, misfit, first_reason, against, line_from}
+use Rattle.scenario_lines.specs.Grammar.{is_blank, most_line_bytes, most_draft, most_clock}
 
 -- the last of n items, x apart by one, leaves 32 bits
 abbrev pub is_too_great : ℤ → Bool
@@ -63,7 +69,8 @@ is_item_word word = bytes_eq word (codes "item") || bytes_eq word (codes "items"
 
 abbrev pub item_words_reason : ℕ → List (List ℕ) → Option Reason
 item_words_reason drafted words =
-    if is_item_word (word_at words 0) then words_reason (context_of [] drafted 0) words (form_of (word_at words 0)) else Some Word
+    if is_item_word (word_at words 0) then words_reason (context_of [] drafted 0) words (form_of (word_at words 0))
+    else Some Word
 
 abbrev pub item_reason_against : ℕ → List ℕ → Option Reason
 item_reason_against drafted text =

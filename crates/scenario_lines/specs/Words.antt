@@ -1,5 +1,6 @@
 -- The words of a line, and what each of them says.
-use Rattle.std.specs.Prelude.{ℕ, ℤ, pos, negsuc, ◌+◌, ◌-◌, ◌*◌, ◌^◌, ◌==◌, ◌&&◌, not, nat_lt, nat_le, Bool, false, if◌then◌else◌, List, [], ◌∷◌, length, Option, Some, None, Ok, Err, slice_index_or}
+use Rattle.std.specs.Prelude.{ℕ, ℤ, pos, negsuc, ◌+◌, ◌-◌, ◌*◌, ◌^◌, ◌==◌, ◌&&◌, not, nat_lt, nat_le, Bool, false}
+use Rattle.std.specs.Prelude.{if◌then◌else◌, List, [], ◌∷◌, length, Option, Some, None, Ok, Err, slice_index_or}
 use Rattle.std.specs.declared.result.Result.{Result}
 use Rattle.std.specs.List.{slice_split, list_any, list_all, before_first, after_first}
 use Rattle.std.specs.Result.{result_ok}

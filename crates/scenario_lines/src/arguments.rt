@@ -10,7 +10,8 @@ use plan_items::{Item, PlanKind};
 
 impl Words<'_> {
     ghost use Rattle.std.specs.Prelude.{◌≡◌, ◌<◌};
-    ghost use Rattle.scenario_lines.specs.Readings.{whole, signed, signed_or_zero, wire, wire_or_zero, named, plan_kind, plan_kind_or_all, read_item};
+    ghost use Rattle.scenario_lines.specs.Readings.{whole, signed, signed_or_zero, wire, wire_or_zero, named};
+    ghost use Rattle.scenario_lines.specs.Readings.{plan_kind, plan_kind_or_all, read_item};
     ghost use Rattle.scenario_lines.specs.LineContext.{has_name, has_drone, has_station};
 
     /// A whole number from `low` to `high`, in decimal without leading zeros; else the reason is `number`.

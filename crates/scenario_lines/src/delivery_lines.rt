@@ -1,6 +1,7 @@
 // The lines that give frames and bytes to nodes, let time pass, and have drones start again.
 ghost use Rattle.std.specs.Prelude.{◌≡◌};
-ghost use Rattle.scenario_lines.specs.Readings.{Says, read_heartbeat, read_deliver, read_flow, read_noise, read_tick, read_clock, read_restart};
+ghost use Rattle.scenario_lines.specs.Readings.{Says, read_heartbeat, read_deliver, read_flow, read_noise, read_tick};
+ghost use Rattle.scenario_lines.specs.Readings.{read_clock, read_restart};
 
 use crate::numbers::some_bytes;
 use crate::words::Words;

@@ -2,8 +2,8 @@
 //!
 //! `read` reads one line against what is known of the world: the nodes that were named ([`Names`]),
 //! the items in the draft and the clock. `read_item_line` reads lines of items alone. Both are stated by
-//! definitions over plain lists (`reason_against`, `line_of`). `Words` reads the words of a line of another form. Nothing here does
-//! what a line says, but that `put_items` adds the items of a line to a plan.
+//! definitions over plain lists (`reason_against`, `line_of`). `Words` reads the words of a line of another form.
+//! Nothing here does what a line says, but that `put_items` adds the items of a line to a plan.
 #![tactic(auto)]
 
 mod arguments;

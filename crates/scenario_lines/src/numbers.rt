@@ -1,7 +1,8 @@
 // Numbers in the words of a line.
 ghost use Rattle.std.specs.Prelude.{◌≡◌, ◌<◌, ◌≤◌, ◌&&◌, nat_le, if◌then◌else◌, ◌-◌, ◌^◌, Some, None, IfSome};
 ghost use Rattle.std.specs.List.{list_all};
-ghost use Rattle.scenario_lines.specs.Words.{is_digit, is_numeral, digits_value, number_in, negative_of, positive_of, integer_of, wire_word, bytes_word};
+ghost use Rattle.scenario_lines.specs.Words.{is_digit, is_numeral, digits_value, number_in, negative_of, positive_of};
+ghost use Rattle.scenario_lines.specs.Words.{integer_of, wire_word, bytes_word};
 ghost use Rattle.std.specs.Option.{ok_or};
 ghost use Rattle.scenario_lines.specs.Readings.{Says};
 ghost use Rattle.scenario_lines.specs.declared.faults.Reason.TheVariants.{Hex};

@@ -1,6 +1,7 @@
 // The lines that order something of a station, and the one that empties the draft for its orders.
 ghost use Rattle.std.specs.Prelude.{◌≡◌};
-ghost use Rattle.scenario_lines.specs.Readings.{read_empty, read_begin, read_cancel, read_clear, read_get, read_command, read_params};
+ghost use Rattle.scenario_lines.specs.Readings.{read_empty, read_begin, read_cancel, read_clear, read_get};
+ghost use Rattle.scenario_lines.specs.Readings.{read_command, read_params};
 
 use crate::words::Words;
 use crate::{Line, Names, Reason};

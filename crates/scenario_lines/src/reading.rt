@@ -96,9 +96,11 @@ pub fn read<N: Names>(
     clock: u64,
     text: &[u8],
 ) -> Result<Line, LineFault>
-    ensures ok { IfOk result (λ line. (reason_against (context_of (N.known nodes.now) drafted clock) text.now ≡ None) × (line ≡ line_of text.now)) }
+    ensures ok { IfOk result (λ line. (reason_against (context_of (N.known nodes.now) drafted clock) text.now ≡ None)
+        × (line ≡ line_of text.now)) }
     ensures permitted { IfOk result (IsPermitted (context_of (N.known nodes.now) drafted clock)) }
-    ensures bad { IfErr result (λ e. IfBad e (λ r. reason_against (context_of (N.known nodes.now) drafted clock) text.now ≡ Some r)) }
+    ensures bad { IfErr result (λ e. IfBad e
+        (λ r. reason_against (context_of (N.known nodes.now) drafted clock) text.now ≡ Some r)) }
 {
     if text.len() > MOST_LINE_BYTES {
         return Err(LineFault::Bad(Reason::Long));

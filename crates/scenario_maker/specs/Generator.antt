@@ -23,8 +23,8 @@ after (suc n) s = next (after n s)
 abbrev pub course_of : ℕ → Course
 course_of c = if c == 0 then Straight else if c == 1 then Cancelled else if c == 2 then Ticked else Repeated
 
--- a round by six draws, in this order: the station and the drone, each from 0; how many items; what it does; how many frames
--- its first flow gives; and the number of the frame that may be delivered once more
+-- a round by six draws, in this order: the station and the drone, each from 0; how many items; what it does; how many
+-- frames its first flow gives; and the number of the frame that may be delivered once more
 abbrev pub round_from : ℕ → Round
 round_from s = record {
   station = drawn (after 1 s) % 4;

@@ -1,6 +1,8 @@
 // The text of a generated scenario.
 ghost use Rattle.std.specs.Prelude.{◌≡◌, ◌++◌, ◌∷◌, [], ◌<◌, ◌≤◌, OnOk, IfOk, string_bytes};
-ghost use Rattle.scenario_maker.specs.Generator.{items_line, begin_line, flow_line, cancel_line, tick_line, deliver_line, course_lines, round_lines, lines_from, rounds, line_text, text_of, scenario_text};
+ghost use Rattle.scenario_maker.specs.Generator.{items_line, begin_line, flow_line, cancel_line, tick_line};
+ghost use Rattle.scenario_maker.specs.Generator.{deliver_line, course_lines, round_lines, lines_from, rounds};
+ghost use Rattle.scenario_maker.specs.Generator.{line_text, text_of, scenario_text};
 
 use crate::rounds::{Course, Round, round_from};
 use mav_ports::NoMemory;

@@ -20,7 +20,8 @@ HoldsAsBefore may_leave image = (is_foreign image ≡ false) × MayHold may_leav
 
 -- an image that isn't foreign, and holds what it could hold at first, or these bytes
 abbrev pub HoldsAsBeforeOr : List ℕ → (List ℕ → Type 0) → List ℕ → Type 0
-HoldsAsBeforeOr bytes may_leave image = (is_foreign image ≡ false) × (MayHold may_leave (contents image) ⊎ (contents image ≡ bytes))
+HoldsAsBeforeOr bytes may_leave image = (is_foreign image ≡ false)
+    × (MayHold may_leave (contents image) ⊎ (contents image ≡ bytes))
 
 -- what a keeper knows of its disk: no image that a crash may leave is foreign, and where it knows the headers they are
 -- those of the one image that a crash leaves

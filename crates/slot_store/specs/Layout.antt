@@ -1,6 +1,7 @@
--- What an image of a disk holds. It has two slots, and a slot has a commit flag (1 byte), a generation (1 byte), a length
--- (8 bytes, little-endian) and up to 65,536 bytes.
-use Rattle.std.specs.Prelude.{◌≡◌, ◌⊎◌, ◌∷◌, ◌++◌, length, true, false, ◌==◌, ◌&&◌, ◌||◌, ◌+◌, ℕ, Bool, List, [], min, nat_lt, get_or, None, Some, if◌then◌else◌}
+-- What an image of a disk holds. It has two slots, and a slot has a commit flag (1 byte), a generation (1 byte), a
+-- length (8 bytes, little-endian) and up to 65,536 bytes.
+use Rattle.std.specs.Prelude.{◌≡◌, ◌⊎◌, ◌∷◌, ◌++◌, length, true, false, ◌==◌, ◌&&◌, ◌||◌, ◌+◌, ℕ, Bool, List, [], min}
+use Rattle.std.specs.Prelude.{nat_lt, get_or, None, Some, if◌then◌else◌}
 use Rattle.std.specs.Int.{w64, from_le_bytes, to_le_bytes}
 use Rattle.std.specs.declared.option.Option.{Option}
 use Rattle.slot_store.specs.declared.headers.Slot.{Slot}

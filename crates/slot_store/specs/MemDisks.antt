@@ -1,5 +1,6 @@
 -- What a disk in memory may leave, and which calls of it fail.
-use Rattle.std.specs.Prelude.{◌≡◌, ◌⊎◌, ◌&&◌, ◌||◌, ◌+◌, ◌*◌, ◌/◌, ◌%◌, ◌^◌, ℕ, Bool, false, List, [], ◌∷◌, ◌++◌, length, drop, get_or, nat_le, nat_lt, refl, Some, if◌then◌else◌}
+use Rattle.std.specs.Prelude.{◌≡◌, ◌⊎◌, ◌&&◌, ◌||◌, ◌+◌, ◌*◌, ◌/◌, ◌%◌, ◌^◌, ℕ, Bool, false, List, [], ◌∷◌, ◌++◌}
+use Rattle.std.specs.Prelude.{length, drop, get_or, nat_le, nat_lt, refl, Some, if◌then◌else◌}
 use mathlib.Core.Logic.{inl, inr}
 use Rattle.std.specs.List.{list_any}
 use Rattle.std.specs.declared.option.Option.{Option}
@@ -24,7 +25,8 @@ HadBeen (m ∷ past) image = IsImage m.bytes.items m.ranges.items image ⊎ HadB
 
 -- what was there is added to the moments before
 abbrev pub IsRecorded : List ℕ → List Range → List Moment → List Moment → Type 0
-IsRecorded bytes ranges before now = (m : Moment) × (m.bytes.items ≡ bytes) × (m.ranges.items ≡ ranges) × (now ≡ before ++ m ∷ [])
+IsRecorded bytes ranges before now = (m : Moment) × (m.bytes.items ≡ bytes) × (m.ranges.items ≡ ranges)
+    × (now ≡ before ++ m ∷ [])
 
 -- since that call there was such an image
 abbrev pub LeftSince : List ℕ → List Range → List Moment → ℕ → List ℕ → Type 0
@@ -33,7 +35,8 @@ LeftSince bytes ranges past t image = IsImage bytes ranges image ⊎ HadBeen (dr
 -- what may be left since any call, from before a call of the disk to after it
 abbrev pub TimePasses : List ℕ → List Range → List Moment → List ℕ → List Range → List Moment → Type 0
 TimePasses bytes ranges past now_bytes now_ranges now_past =
-    Elapses (length past) (length now_past) (LeftSince bytes ranges past) (LeftSince now_bytes now_ranges now_past) (IsImage now_bytes now_ranges)
+    Elapses (length past) (length now_past) (LeftSince bytes ranges past) (LeftSince now_bytes now_ranges now_past)
+    (IsImage now_bytes now_ranges)
 
 none_left : (past : List Moment) (image : List ℕ) → HadBeen (drop (length past) past) image → ⊥
 none_left [] image had = had

@@ -21,7 +21,8 @@ impl From<DiskFault> for KeepFault {
 /// whether the write failed or not, and the same bytes outside.
 pub trait Disk: Drop {
     ghost use Rattle.std.specs.Prelude.{OnOk};
-    ghost use Rattle.slot_store.specs.Disks.{bytes_at, Writes, Tears, LeavesNoMore, LeavesAlone, Elapses, CountsDiskFault};
+    ghost use Rattle.slot_store.specs.Disks.{bytes_at, Writes, Tears, LeavesNoMore, LeavesAlone, Elapses};
+    ghost use Rattle.slot_store.specs.Disks.{CountsDiskFault};
 
     /// What its bytes are is observable: a disk over a real file promises nothing of them.
     ghost is_observable: { Type 0 };
@@ -53,7 +54,8 @@ pub trait Disk: Drop {
         ensures bytes { is_observable → OnOk result (out.new ≡ bytes_at at (length out.old) (seen self.old)) }
         ensures seen { seen self.new ≡ seen self.old }
         ensures crash { LeavesNoMore (may_leave self.old) (may_leave self.new) }
-        ensures time { Elapses (moment self.old) (moment self.new) (left_since self.old) (left_since self.new) (may_leave self.new) }
+        ensures time { Elapses (moment self.old) (moment self.new) (left_since self.old) (left_since self.new)
+            (may_leave self.new) }
         ensures extent { extent self.new ≡ extent self.old }
         ensures faults { CountsDiskFault result (faults self.old) (faults self.new) };
 
@@ -62,7 +64,8 @@ pub trait Disk: Drop {
         requires { at + length bytes.now ≤ extent self.old }
         ensures written { is_observable → OnOk result (Writes at bytes.now (seen self.old) (seen self.new)) }
         ensures crash { Tears at (length bytes.now) (may_leave self.old) (may_leave self.new) }
-        ensures time { Elapses (moment self.old) (moment self.new) (left_since self.old) (left_since self.new) (may_leave self.new) }
+        ensures time { Elapses (moment self.old) (moment self.new) (left_since self.old) (left_since self.new)
+            (may_leave self.new) }
         ensures extent { extent self.new ≡ extent self.old }
         ensures faults { CountsDiskFault result (faults self.old) (faults self.new) };
 
@@ -71,7 +74,8 @@ pub trait Disk: Drop {
         ensures durable { OnOk result (LeavesAlone (seen self.new) (may_leave self.new)) }
         ensures seen { OnOk result (seen self.new ≡ seen self.old) }
         ensures crash { LeavesNoMore (may_leave self.old) (may_leave self.new) }
-        ensures time { Elapses (moment self.old) (moment self.new) (left_since self.old) (left_since self.new) (may_leave self.new) }
+        ensures time { Elapses (moment self.old) (moment self.new) (left_since self.old) (left_since self.new)
+            (may_leave self.new) }
         ensures extent { extent self.new ≡ extent self.old }
         ensures faults { CountsDiskFault result (faults self.old) (faults self.new) };
 
@@ -82,7 +86,8 @@ pub trait Disk: Drop {
     ghost has_its_size: { (disk : Self) → is_observable → length (seen disk) ≡ extent disk };
 
     /// This moment is one of those since an earlier one.
-    ghost counts_now: { (disk : Self) (t : ℕ) (c : List ℕ) → t ≤ moment disk → may_leave disk c → left_since disk t c };
+    ghost counts_now: { (disk : Self) (t : ℕ) (c : List ℕ) → t ≤ moment disk → may_leave disk c
+        → left_since disk t c };
 
     /// Since this moment there is no other.
     ghost only_now: { (disk : Self) (c : List ℕ) → left_since disk (moment disk) c → may_leave disk c };

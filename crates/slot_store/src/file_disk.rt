@@ -11,8 +11,8 @@ use std::{fs, io};
 // Two slots.
 const DISK_BYTES: u64 = 131_092;
 
-/// A disk over a file of 131,092 bytes. It promises nothing of what the file holds, and counts each error of the system
-/// as a fault. Once a sync has failed each call fails, since the system may have dropped what wasn't written.
+/// A disk over a file of 131,092 bytes. It promises nothing of what the file holds, and counts each error of the
+/// system as a fault. Once a sync has failed each call fails, since the system may have dropped what wasn't written.
 #[derive(Drop)]
 pub struct FileDisk {
     file: File,
@@ -97,8 +97,8 @@ fn name(rt: &HostRuntime, beside: &str, path: &str) -> io::Result<()> {
     }
 }
 
-// Makes the file of zeros under another name first, so that a crash leaves all of it or none. That is made anew, and never
-// through a symbolic link.
+// Makes the file of zeros under another name first, so that a crash leaves all of it or none. That is made anew, and
+// never through a symbolic link.
 fn make(rt: &HostRuntime, path: &str) -> io::Result<()> {
     let beside = format!(in rt.alloc(); "{path}.new")?;
     let _ = fs::remove_file(rt, beside.as_str());

@@ -8,8 +8,8 @@ use plan_store::{KeepFault, Keeper};
 use std::alloc::AllocError;
 use std::io::ErrorKind;
 
-/// A store in two slots of a file. It says nothing of its contents. If the file can't be opened, has another size or isn't
-/// the work of a store, each call fails by `Store`.
+/// A store in two slots of a file. It says nothing of its contents. If the file can't be opened, has another size or
+/// isn't the work of a store, each call fails by `Store`.
 #[derive(Drop)]
 pub struct FileStore {
     slots: Option<SlotKeeper<FileDisk>>,

@@ -1,6 +1,7 @@
 // The headers of the two slots, and what they say.
 ghost use Rattle.std.specs.Prelude.{◌≡◌, length};
-ghost use Rattle.slot_store.specs.Layout.{start_of, next_generation, current, is_out_of_range, are_foreign, spare, new_generation, header_of, with_header};
+ghost use Rattle.slot_store.specs.Layout.{start_of, next_generation, current, is_out_of_range, are_foreign, spare};
+ghost use Rattle.slot_store.specs.Layout.{new_generation, header_of, with_header};
 
 use crate::{Disk, DiskFault};
 

@@ -18,8 +18,8 @@ use std::alloc::Global;
 pub enum SlotWhy {
     /// The disk failed.
     Store,
-    /// What it holds isn't the work of a store: an open slot has a generation above 2 or a length above 65,536, or both
-    /// slots are open and of one generation.
+    /// What it holds isn't the work of a store: an open slot has a generation above 2 or a length above 65,536, or
+    /// both slots are open and of one generation.
     Foreign,
 }
 
@@ -47,14 +47,19 @@ impl<D: Disk> SlotKeeper<D> {
         // One of the images that a crash could leave is what each crash leaves now, and it isn't foreign, or it is.
         ensures opened { D.is_observable → IfOk result (λ keeper. D.may_leave disk (D.seen keeper.disk)
             × LeavesAlone (D.seen keeper.disk) (D.may_leave keeper.disk) × (is_foreign (D.seen keeper.disk) ≡ false)) }
-        ensures foreign { D.is_observable → IfErr result (λ fault. fault.why ≡ SlotWhy.Foreign → D.may_leave disk (D.seen fault.disk)
+        ensures foreign { D.is_observable → IfErr result
+            (λ fault. fault.why ≡ SlotWhy.Foreign → D.may_leave disk (D.seen fault.disk)
             × LeavesAlone (D.seen fault.disk) (D.may_leave fault.disk) × (is_foreign (D.seen fault.disk) ≡ true)) }
         // A crash at any moment leaves what one could leave before.
-        ensures any_moment { IfOk result (λ keeper. LeavesOnly D.moment D.left_since disk keeper.disk (D.may_leave disk)) }
-        ensures any_moment_fault { IfErr result (λ fault. LeavesOnly D.moment D.left_since disk fault.disk (D.may_leave disk)) }
+        ensures any_moment { IfOk result (λ keeper. LeavesOnly D.moment D.left_since disk keeper.disk
+            (D.may_leave disk)) }
+        ensures any_moment_fault { IfErr result (λ fault. LeavesOnly D.moment D.left_since disk fault.disk
+            (D.may_leave disk)) }
         ensures faults { IfOk result (λ keeper. D.faults keeper.disk ≡ D.faults disk) }
-        ensures failed { IfErr result (λ fault. fault.why ≡ SlotWhy.Store → Rose (D.faults disk) (D.faults fault.disk)) }
-        ensures not_failed { IfErr result (λ fault. fault.why ≡ SlotWhy.Foreign → D.faults fault.disk ≡ D.faults disk) }
+        ensures failed { IfErr result (λ fault. fault.why ≡ SlotWhy.Store
+            → Rose (D.faults disk) (D.faults fault.disk)) }
+        ensures not_failed { IfErr result (λ fault. fault.why ≡ SlotWhy.Foreign
+            → D.faults fault.disk ≡ D.faults disk) }
     {
         let mut disk = disk;
         match look(&mut disk) {
@@ -85,9 +90,12 @@ impl<D: Disk> SlotKeeper<D> {
     /// contents are read, and changes nothing.
     pub fn load(&mut self) -> Result<Vec<u8>, KeepFault>
         // A crash could leave before what each crash leaves from now on.
-        ensures loaded { D.is_observable → IfOk result (λ bytes. MayHold (D.may_leave self.old.disk) bytes.items × Holds (D.may_leave self.new.disk) bytes.items) }
+        ensures loaded { D.is_observable → IfOk result
+            (λ bytes. MayHold (D.may_leave self.old.disk) bytes.items
+            × Holds (D.may_leave self.new.disk) bytes.items) }
         // A crash at any moment leaves contents that one could leave before.
-        ensures any_moment { D.is_observable → LeavesOnly D.moment D.left_since self.old.disk self.new.disk (HoldsAsBefore (D.may_leave self.old.disk)) }
+        ensures any_moment { D.is_observable → LeavesOnly D.moment D.left_since self.old.disk self.new.disk
+            (HoldsAsBefore (D.may_leave self.old.disk)) }
         ensures faults { CountsStoreFault result (D.faults self.old.disk) (D.faults self.new.disk) }
     {
         self.known = None;
@@ -102,7 +110,8 @@ impl<D: Disk> SlotKeeper<D> {
         // Each crash leaves them from now on.
         ensures saved { D.is_observable → OnOk result (Holds (D.may_leave self.new.disk) bytes.now) }
         // A crash at any moment leaves contents that one could leave before, or these.
-        ensures any_moment { D.is_observable → LeavesOnly D.moment D.left_since self.old.disk self.new.disk (HoldsAsBeforeOr bytes.now (D.may_leave self.old.disk)) }
+        ensures any_moment { D.is_observable → LeavesOnly D.moment D.left_since self.old.disk self.new.disk
+            (HoldsAsBeforeOr bytes.now (D.may_leave self.old.disk)) }
         ensures memory { result ≡ Err KeepFault.NoMemory → ⊥ }
         ensures faults { CountsStoreFault result (D.faults self.old.disk) (D.faults self.new.disk) }
     {
@@ -115,7 +124,8 @@ impl<D: Disk> SlotKeeper<D> {
 
     // The headers of the one image that a crash leaves. After a failed call the steps of a load find them.
     fn settle(&mut self) -> Result<Headers, DiskFault>
-        ensures read { D.is_observable → IfOk result (λ headers. IsRead headers (D.seen self.new.disk) (D.may_leave self.new.disk)) }
+        ensures read { D.is_observable → IfOk result
+            (λ headers. IsRead headers (D.seen self.new.disk) (D.may_leave self.new.disk)) }
         ensures crash { LeavesNoMore (D.may_leave self.old.disk) (D.may_leave self.new.disk) }
         ensures any_moment { LeavesOnly D.moment D.left_since self.old.disk self.new.disk (D.may_leave self.old.disk) }
         ensures faults { CountsDiskFault result (D.faults self.old.disk) (D.faults self.new.disk) }
@@ -135,8 +145,11 @@ impl<D: Disk + Send> Keeper for SlotKeeper<D> {
     ghost is_infallible = { λ s. ⊥ };
 
     fn load(&mut self) -> Result<Vec<u8>, KeepFault>
-        ensures loaded { D.is_observable → IfOk result (λ bytes. MayHold (D.may_leave self.old.disk) bytes.items × Holds (D.may_leave self.new.disk) bytes.items) }
-        ensures any_moment { D.is_observable → LeavesOnly D.moment D.left_since self.old.disk self.new.disk (HoldsAsBefore (D.may_leave self.old.disk)) }
+        ensures loaded { D.is_observable → IfOk result
+            (λ bytes. MayHold (D.may_leave self.old.disk) bytes.items
+            × Holds (D.may_leave self.new.disk) bytes.items) }
+        ensures any_moment { D.is_observable → LeavesOnly D.moment D.left_since self.old.disk self.new.disk
+            (HoldsAsBefore (D.may_leave self.old.disk)) }
         ensures faults { CountsStoreFault result (D.faults self.old.disk) (D.faults self.new.disk) }
     {
         SlotKeeper::load(self)
@@ -145,7 +158,8 @@ impl<D: Disk + Send> Keeper for SlotKeeper<D> {
     fn save(&mut self, bytes: &[u8]) -> Result<(), KeepFault>
         requires { length bytes.now ≤ MAX_SAVED_BYTES }
         ensures saved { D.is_observable → OnOk result (Holds (D.may_leave self.new.disk) bytes.now) }
-        ensures any_moment { D.is_observable → LeavesOnly D.moment D.left_since self.old.disk self.new.disk (HoldsAsBeforeOr bytes.now (D.may_leave self.old.disk)) }
+        ensures any_moment { D.is_observable → LeavesOnly D.moment D.left_since self.old.disk self.new.disk
+            (HoldsAsBeforeOr bytes.now (D.may_leave self.old.disk)) }
         ensures memory { result ≡ Err KeepFault.NoMemory → ⊥ }
         ensures faults { CountsStoreFault result (D.faults self.old.disk) (D.faults self.new.disk) }
     {

@@ -1,8 +1,9 @@
 //! A store of plans over a disk, which survives a crash at any moment.
 //!
-//! A [`Disk`] says what a read returns, and what a crash may leave. [`SlotKeeper`] keeps its contents in one of two slots
-//! and writes the other: a crash inside a save leaves the contents before it or those saved. [`MemDisk`] is exact, fails
-//! at chosen calls and crashes on demand; [`FileDisk`] wraps a file and promises nothing of what the file holds, and
+//! A [`Disk`] says what a read returns, and what a crash may leave. [`SlotKeeper`] keeps its contents in one of two
+//! slots and writes the other: a crash inside a save leaves the contents before it or those saved. [`MemDisk`] is
+//! exact, fails at chosen calls and crashes on demand; [`FileDisk`] wraps a file and promises nothing of what the file
+//! holds, and
 //! [`FileStore`] is the store over one.
 #![tactic(auto)]
 

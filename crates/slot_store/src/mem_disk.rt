@@ -1,10 +1,13 @@
 // A disk in memory.
-ghost use Rattle.std.specs.Prelude.{◌≡◌, ◌<◌, ◌≤◌, ◌+◌, ◌^◌, ⊤, ℕ, List, [], ◌∷◌, ◌++◌, Some, None, ◌%◌, if◌then◌else◌, false, length, IfOk, OnOk, OnErr};
+ghost use Rattle.std.specs.Prelude.{◌≡◌, ◌<◌, ◌≤◌, ◌+◌, ◌^◌, ⊤, ℕ, List, [], ◌∷◌, ◌++◌, Some, None, ◌%◌};
+ghost use Rattle.std.specs.Prelude.{if◌then◌else◌, false, length, IfOk, OnOk, OnErr};
 ghost use Rattle.std.proofs.Common.{inl, refl};
 ghost use Rattle.mav_ports.specs.Calls.{call_after};
 ghost use Rattle.mav_ports.specs.Counts.{next_count};
-ghost use Rattle.slot_store.specs.Disks.{bytes_at, SameOutside, Writes, Tears, LeavesNoMore, LeavesAlone, CountsDiskFault};
-ghost use Rattle.slot_store.specs.MemDisks.{IsImage, IsRecorded, LeftSince, drawn, drawn_byte, next_state, only_image, own_image, fails_at};
+ghost use Rattle.slot_store.specs.Disks.{bytes_at, SameOutside, Writes, Tears, LeavesNoMore, LeavesAlone};
+ghost use Rattle.slot_store.specs.Disks.{CountsDiskFault};
+ghost use Rattle.slot_store.specs.MemDisks.{IsImage, IsRecorded, LeftSince, drawn, drawn_byte, next_state, only_image};
+ghost use Rattle.slot_store.specs.MemDisks.{own_image, fails_at};
 
 use crate::unsynced::{Moment, Range, is_covered};
 use crate::{Disk, DiskFault};
@@ -53,10 +56,11 @@ impl MemDisk {
         &self.bytes
     }
 
-    /// What a crash leaves, as a disk with no call that fails: the bytes of ranges that weren't synced are the low 8 bits
-    /// of numbers drawn one after another, the first after `pick`.
+    /// What a crash leaves, as a disk with no call that fails: the bytes of ranges that weren't synced are the low 8
+    /// bits of numbers drawn one after another, the first after `pick`.
     pub fn crash(self, pick: u64) -> Result<MemDisk, AllocError>
-        ensures drawn { IfOk result (λ disk. disk.bytes.items ≡ drawn (pick % 2 ^ 31) self.ranges.items 0 self.bytes.items) }
+        ensures drawn { IfOk result (λ disk. disk.bytes.items
+            ≡ drawn (pick % 2 ^ 31) self.ranges.items 0 self.bytes.items) }
         ensures may_be_left { IfOk result (λ disk. IsImage self.bytes.items self.ranges.items disk.bytes.items) }
         ensures synced { IfOk result (λ disk. disk.ranges.items ≡ []) }
         ensures fails { IfOk result (λ disk. disk.fails.items ≡ []) }
@@ -101,7 +105,8 @@ impl MemDisk {
         ensures listed { self.new.fails ≡ self.old.fails }
         ensures stop { self.new.stop ≡ self.old.stop }
         ensures call { self.new.call ≡ call_after self.old.call }
-        ensures past { OnOk result (IsRecorded self.old.bytes.items self.old.ranges.items self.old.past.items self.new.past.items) }
+        ensures past { OnOk result (IsRecorded self.old.bytes.items self.old.ranges.items self.old.past.items
+            self.new.past.items) }
         ensures past_err { OnErr result (self.new.past.items ≡ self.old.past.items) }
         ensures faults { CountsDiskFault result self.old.faults self.new.faults }
     {
@@ -144,7 +149,8 @@ fn next_state(state: u64) -> u64
 fn draw_one(image: &mut Vec<u8>, state: u64, byte: u8, is_drawn: bool) -> Result<u64, AllocError>
     requires { state < 2 ^ 31 }
     ensures state { IfOk result (λ next. next ≡ (if is_drawn then next_state state else state)) }
-    ensures image { OnOk result (image.new.items ≡ image.old.items ++ (if is_drawn then drawn_byte (next_state state) else byte) ∷ []) }
+    ensures image { OnOk result (image.new.items ≡ image.old.items
+        ++ (if is_drawn then drawn_byte (next_state state) else byte) ∷ []) }
     ensures small { IfOk result (λ next. next < 2 ^ 31) }
 {
     if !is_drawn {
@@ -230,7 +236,8 @@ impl Disk for MemDisk {
         requires { at + length out.old ≤ length self.old.bytes.items }
         ensures bytes { OnOk result (out.new ≡ bytes_at at (length out.old) self.old.bytes.items) }
         ensures seen { self.new.bytes.items ≡ self.old.bytes.items }
-        ensures crash { LeavesNoMore (IsImage self.old.bytes.items self.old.ranges.items) (IsImage self.new.bytes.items self.new.ranges.items) }
+        ensures crash { LeavesNoMore (IsImage self.old.bytes.items self.old.ranges.items)
+            (IsImage self.new.bytes.items self.new.ranges.items) }
         ensures passes { MemCall result self.old self.new }
     {
         if self.begin()? {
@@ -245,7 +252,8 @@ impl Disk for MemDisk {
         requires { at + length bytes.now ≤ length self.old.bytes.items }
         ensures written { OnOk result (Writes at bytes.now self.old.bytes.items self.new.bytes.items) }
         ensures unwritten { OnErr result (self.new.bytes.items ≡ self.old.bytes.items) }
-        ensures crash { Tears at (length bytes.now) (IsImage self.old.bytes.items self.old.ranges.items) (IsImage self.new.bytes.items self.new.ranges.items) }
+        ensures crash { Tears at (length bytes.now) (IsImage self.old.bytes.items self.old.ranges.items)
+            (IsImage self.new.bytes.items self.new.ranges.items) }
         ensures passes { MemCall result self.old self.new }
     {
         let fails = self.begin()?;
@@ -259,9 +267,11 @@ impl Disk for MemDisk {
     }
 
     fn sync(&mut self) -> Result<(), DiskFault>
-        ensures durable { OnOk result (LeavesAlone self.new.bytes.items (IsImage self.new.bytes.items self.new.ranges.items)) }
+        ensures durable { OnOk result (LeavesAlone self.new.bytes.items
+            (IsImage self.new.bytes.items self.new.ranges.items)) }
         ensures seen { OnOk result (self.new.bytes.items ≡ self.old.bytes.items) }
-        ensures crash { LeavesNoMore (IsImage self.old.bytes.items self.old.ranges.items) (IsImage self.new.bytes.items self.new.ranges.items) }
+        ensures crash { LeavesNoMore (IsImage self.old.bytes.items self.old.ranges.items)
+            (IsImage self.new.bytes.items self.new.ranges.items) }
         ensures passes { MemCall result self.old self.new }
     {
         if self.begin()? {

@@ -62,7 +62,8 @@ fn read_stored<D: Disk>(
     length: u64,
 ) -> Result<Vec<u8>, KeepFault>
     requires { 131092 ≤ D.extent disk.old }
-    ensures bytes { D.is_observable → IfOk result (λ bytes. bytes.items ≡ bytes_at (start_of slot + 10) (min length 65536) (D.seen disk.old)) }
+    ensures bytes { D.is_observable → IfOk result
+        (λ bytes. bytes.items ≡ bytes_at (start_of slot + 10) (min length 65536) (D.seen disk.old)) }
     ensures seen { D.seen disk.new ≡ D.seen disk.old }
     ensures crash { LeavesNoMore (D.may_leave disk.old) (D.may_leave disk.new) }
     ensures any_moment { LeavesOnly D.moment D.left_since disk.old disk.new (D.may_leave disk.old) }
@@ -81,7 +82,8 @@ pub(crate) fn read_contents<D: Disk>(
     headers: &Headers,
 ) -> Result<Vec<u8>, KeepFault>
     requires { 131092 ≤ D.extent disk.old }
-    ensures bytes { D.is_observable → headers.now ≡ headers_of (D.seen disk.old) → IfOk result (λ bytes. bytes.items ≡ contents (D.seen disk.old)) }
+    ensures bytes { D.is_observable → headers.now ≡ headers_of (D.seen disk.old)
+        → IfOk result (λ bytes. bytes.items ≡ contents (D.seen disk.old)) }
     ensures seen { D.seen disk.new ≡ D.seen disk.old }
     ensures crash { LeavesNoMore (D.may_leave disk.old) (D.may_leave disk.new) }
     ensures any_moment { LeavesOnly D.moment D.left_since disk.old disk.new (D.may_leave disk.old) }

@@ -34,7 +34,8 @@ fn close<D: Disk>(disk: &mut D, slot: Slot, is_open: bool) -> Result<(), DiskFau
         → LeavesOnly D.moment D.left_since disk.old disk.new (MayClose (start_of slot) is_open (D.seen disk.old)) }
     ensures closed { D.is_observable → is_open ≡ (header_at (start_of slot) (D.seen disk.old)).is_open
         → OnOk result (Closes (start_of slot) (D.seen disk.old) (D.seen disk.new)) }
-    ensures durable { LeavesAlone (D.seen disk.old) (D.may_leave disk.old) → OnOk result (LeavesAlone (D.seen disk.new) (D.may_leave disk.new)) }
+    ensures durable { LeavesAlone (D.seen disk.old) (D.may_leave disk.old)
+        → OnOk result (LeavesAlone (D.seen disk.new) (D.may_leave disk.new)) }
     ensures extent { D.extent disk.new ≡ D.extent disk.old }
     ensures faults { CountsDiskFault result (D.faults disk.old) (D.faults disk.new) }
 {
@@ -60,8 +61,10 @@ fn stage<D: Disk>(disk: &mut D, slot: Slot, generation: u8, bytes: &[u8]) -> Res
     requires room { 131092 ≤ D.extent disk.old }
     requires fits { length bytes.now ≤ 65536 }
     ensures any_moment { LeavesAlone (D.seen disk.old) (D.may_leave disk.old)
-        → LeavesOnly D.moment D.left_since disk.old disk.new (SameOutside (start_of slot + 1) (9 + length bytes.now) (D.seen disk.old)) }
-    ensures written { D.is_observable → OnOk result (Writes (start_of slot + 1) (slot_body generation bytes.now) (D.seen disk.old) (D.seen disk.new)) }
+        → LeavesOnly D.moment D.left_since disk.old disk.new
+        (SameOutside (start_of slot + 1) (9 + length bytes.now) (D.seen disk.old)) }
+    ensures written { D.is_observable → OnOk result
+        (Writes (start_of slot + 1) (slot_body generation bytes.now) (D.seen disk.old) (D.seen disk.new)) }
     ensures durable { OnOk result (LeavesAlone (D.seen disk.new) (D.may_leave disk.new)) }
     ensures extent { D.extent disk.new ≡ D.extent disk.old }
     ensures faults { CountsDiskFault result (D.faults disk.old) (D.faults disk.new) }
@@ -82,7 +85,8 @@ pub(crate) fn write_slot<D: Disk>(
     ensures any_moment { D.is_observable → IsRead headers.now (D.seen disk.old) (D.may_leave disk.old)
         → LeavesOnly D.moment D.left_since disk.old disk.new (HoldsEither (contents (D.seen disk.old)) bytes.now) }
     ensures saved { D.is_observable → IsRead headers.now (D.seen disk.old) (D.may_leave disk.old)
-        → IfOk result (λ after. IsRead after (D.seen disk.new) (D.may_leave disk.new) × (contents (D.seen disk.new) ≡ bytes.now)) }
+        → IfOk result (λ after. IsRead after (D.seen disk.new) (D.may_leave disk.new)
+        × (contents (D.seen disk.new) ≡ bytes.now)) }
     ensures extent { D.extent disk.new ≡ D.extent disk.old }
     ensures faults { CountsDiskFault result (D.faults disk.old) (D.faults disk.new) }
 {

@@ -14,10 +14,11 @@ use Rattle.run_status.specs.Seen.{Output}
 use Rattle.fleet_line.specs.Usage.{UsageReported}
 
 -- a run over these words, with its inputs, ports, stores and clock, its output and its status
-pub record RunPromises {A B : Type 0} (words : List (List ℕ)) (s : Surroundings A B) (out : Output) (code : ℕ) : Type 0 where
-  -- The command that the words name did what it does, and all that it promises of that holds: `Promises` has a field for
-  -- each status, and fields that say why no other comes; the command's specification says which bytes of its input stop it
-  -- and what is written of them.
+pub record RunPromises {A B : Type 0} (words : List (List ℕ)) (s : Surroundings A B) (out : Output)
+    (code : ℕ) : Type 0 where
+  -- The command that the words name did what it does, and all that it promises of that holds: `Promises` has a field
+  -- for each status, and fields that say why no other comes; the command's specification says which bytes of its input
+  -- stop it and what is written of them.
   pub does : (asked : Asked) → Asks built words asked → Does (once_told out code) s asked asked.command
   -- The main theorem, of that same run: the bytes that it took, why it ended and what it wrote of
   -- them; and, if the foreign bytes among them bring no frame that verifies and wasn't sent,
@@ -32,14 +33,17 @@ pub record RunPromises {A B : Type 0} (words : List (List ℕ)) (s : Surrounding
   pub completeness : (asked : Asked) → Asks built words asked → asked.command ≡ Fleet
       → FleetsComplete (has_given Key asked.settings) (has_given Frames asked.settings) out code s.key s.main
   -- The scenario that `make` generates is played to its end and authentic, so it has the main theorem.
-  pub make_theorem : (asked : Asked) → Asks built words asked → asked.command ≡ Make → Makes asked.plain GeneratedTheorem
+  pub make_theorem : (asked : Asked) → Asks built words asked → asked.command ≡ Make
+      → Makes asked.plain GeneratedTheorem
   -- The words are of no command exactly if the status is 2, unless the output refused that
   -- text or there was no memory.
   pub usage : code ≡ 2 → AskNothing built words
-  pub usage_only : AskNothing built words → UsageReported code out.refusals_before out.refusals_after out.sent_before out.sent_after
+  pub usage_only : AskNothing built words → UsageReported code out.refusals_before out.refusals_after out.sent_before
+      out.sent_after
   -- What the words don't name stays as it was.
   pub leaves_alone : (asked : Asked) → Asks built words asked → LeavesAlone s asked
-  pub untouched : AskNothing built words → s.main.unread × s.defs.unread × s.key.unread × s.same_ports × s.same_keepers × s.same_clock
+  pub untouched : AskNothing built words → s.main.unread × s.defs.unread × s.key.unread × s.same_ports × s.same_keepers
+      × s.same_clock
   -- The ports of a router are called only once each input that the words name was read to its end.
   pub unmoved_before : (asked : Asked) → Asks built words asked → asked.command ≡ Route
       → ¬ AllEnded (has_given Defs asked.settings) s.key s.defs → s.same_ports

@@ -29,4 +29,5 @@ pub record Wants (words : List (List ℕ)) (w : Wanted) : Type 0 where
 
 -- there are as many links as the words name ports, and as many stores as they name
 abbrev pub AreThere : List (List ℕ) → (links keepers : ℕ) → Type 0
-AreThere words links keepers = (asked : Asked) → Asks built words asked → AreAsked links asked × (keepers ≡ keepers_asked asked)
+AreThere words links keepers = (asked : Asked) → Asks built words asked → AreAsked links asked
+    × (keepers ≡ keepers_asked asked)

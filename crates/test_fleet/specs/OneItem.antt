@@ -18,7 +18,8 @@ one_item_installed = codes "1 255.190 PING 1 to 0.0\n2 1.1 PING 1 to 255.190\n3 
 
 -- the key if none is given
 abbrev pub the_key : List ℕ
-the_key = 0 ∷ 1 ∷ 2 ∷ 3 ∷ 4 ∷ 5 ∷ 6 ∷ 7 ∷ 8 ∷ 9 ∷ 10 ∷ 11 ∷ 12 ∷ 13 ∷ 14 ∷ 15 ∷ 16 ∷ 17 ∷ 18 ∷ 19 ∷ 20 ∷ 21 ∷ 22 ∷ 23 ∷ 24 ∷ 25 ∷ 26 ∷ 27 ∷ 28 ∷ 29 ∷ 30 ∷ 31 ∷ []
+the_key = 0 ∷ 1 ∷ 2 ∷ 3 ∷ 4 ∷ 5 ∷ 6 ∷ 7 ∷ 8 ∷ 9 ∷ 10 ∷ 11 ∷ 12 ∷ 13 ∷ 14 ∷ 15 ∷ 16 ∷ 17 ∷ 18 ∷ 19 ∷ 20 ∷ 21 ∷ 22 ∷ 23
+    ∷ 24 ∷ 25 ∷ 26 ∷ 27 ∷ 28 ∷ 29 ∷ 30 ∷ 31 ∷ []
 
 abbrev pub the_drone : Name
 the_drone = record { sys = 1; comp = 1 }
@@ -28,13 +29,23 @@ the_station = record { sys = 255; comp = 190 }
 
 -- a waypoint in the frame GLOBAL_RELATIVE_ALT_INT
 abbrev pub the_plan : List Item
-the_plan = record { frame = 6; command = 16; current = 0; autocontinue = 1; p = 0 ∷ 0 ∷ 0 ∷ 0 ∷ []; x = pos 473977420; y = pos 85455940; z = 0 } ∷ []
+the_plan = record {
+  frame = 6;
+  command = 16;
+  current = 0;
+  autocontinue = 1;
+  p = 0 ∷ 0 ∷ 0 ∷ 0 ∷ [];
+  x = pos 473977420;
+  y = pos 85455940;
+  z = 0;
+} ∷ []
 
 -- the nodes that it names
 abbrev pub one_fleet : Nodes
 one_fleet = nodes_of (played the_key true one_item).state.nodes
 
--- that plan was installed, once, from a fully transmitted upload of that station; and the report's line that says so is true
+-- that plan was installed, once, from a fully transmitted upload of that station; and the report's line that says so
+-- is true
 pub record IsInstalledOnce : Type 0 where
   pub safe : Safe the_key one_item (played the_key true one_item) (actions_of the_key true one_item)
   pub installed : InstallIsTrue one_fleet (actions_of the_key true one_item) 7 the_drone 0 the_plan the_station

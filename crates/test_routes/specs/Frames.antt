@@ -55,7 +55,8 @@ at_port port frame = record { port = port; frame = frame }
 
 -- the journal of frames that come in one after another
 abbrev pub journal_of : Rules → List Incoming → List Entry
-journal_of rules frames = fold (λ before (i : Incoming). before ++ entry_after rules before i.port i.frame ∷ []) [] frames
+journal_of rules frames = fold (λ before (i : Incoming). before ++ entry_after rules before i.port i.frame ∷ []) []
+    frames
 
 abbrev pub rules_of : ℕ → List Bool → Rules
 rules_of ports plain = record { key = the_key; known = profile_definitions; ports = ports; plain = plain }

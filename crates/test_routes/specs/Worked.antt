@@ -5,7 +5,8 @@ use Rattle.mav_sign.specs.declared.admission.Admit.TheVariants.{Admitted, Unsign
 use Rattle.link_table.specs.Routing.{no_ways}
 use Rattle.mav_router.specs.declared.entries.Entry.{Entry}
 use Rattle.mav_router.specs.Journal.{Rules}
-use Rattle.test_routes.specs.Frames.{Incoming, at_port, journal_of, rules_of, unsigned, signed, node, heartbeat, heartbeat_payload, count_to, request_to, ack_to}
+use Rattle.test_routes.specs.Frames.{Incoming, at_port, journal_of, rules_of, unsigned, signed, node, heartbeat}
+use Rattle.test_routes.specs.Frames.{heartbeat_payload, count_to, request_to, ack_to}
 
 -- what the journal of these frames shows
 abbrev pub verdicts : Rules → List Incoming → List Admit
@@ -28,7 +29,8 @@ signed_frames =
     ∷ []
 
 -- ports 1 and 3 are open, 2 isn't: a HEARTBEAT of MAVLink 1 goes to port 3 alone; one of MAVLink 2 without a signature
--- block isn't admitted at port 2; a signed count finds the drone; and its unsigned acknowledgement isn't sent to port 2
+-- block isn't admitted at port 2; a signed count finds the drone; and its unsigned acknowledgement isn't sent to port
+-- 2
 abbrev pub mixed_frames : List Incoming
 mixed_frames =
     at_port 1 (unsigned true (node 1 1) heartbeat heartbeat_payload)
@@ -41,7 +43,11 @@ abbrev pub open_1_and_3 : List Bool
 open_1_and_3 = true ∷ false ∷ true ∷ false ∷ false ∷ false ∷ false ∷ false ∷ []
 
 pub record Worked : Type 0 where
-  pub signed_verdicts : verdicts (rules_of 3 no_ways) signed_frames ≡ Admitted ∷ Admitted ∷ NotLater 1 ∷ Admitted ∷ Admitted ∷ Admitted ∷ []
-  pub signed_ways : goes_to (rules_of 3 no_ways) signed_frames ≡ (false ∷ true ∷ true ∷ []) ∷ (true ∷ false ∷ false ∷ []) ∷ (false ∷ false ∷ false ∷ []) ∷ (false ∷ false ∷ false ∷ []) ∷ (false ∷ true ∷ false ∷ []) ∷ (false ∷ false ∷ false ∷ []) ∷ []
+  pub signed_verdicts : verdicts (rules_of 3 no_ways) signed_frames ≡ Admitted ∷ Admitted ∷ NotLater 1 ∷ Admitted
+      ∷ Admitted ∷ Admitted ∷ []
+  pub signed_ways : goes_to (rules_of 3 no_ways) signed_frames ≡ (false ∷ true ∷ true ∷ [])
+      ∷ (true ∷ false ∷ false ∷ []) ∷ (false ∷ false ∷ false ∷ []) ∷ (false ∷ false ∷ false ∷ [])
+      ∷ (false ∷ true ∷ false ∷ []) ∷ (false ∷ false ∷ false ∷ []) ∷ []
   pub mixed_verdicts : verdicts (rules_of 3 open_1_and_3) mixed_frames ≡ Admitted ∷ Unsigned ∷ Admitted ∷ Admitted ∷ []
-  pub mixed_ways : goes_to (rules_of 3 open_1_and_3) mixed_frames ≡ (false ∷ false ∷ true ∷ []) ∷ (false ∷ false ∷ false ∷ []) ∷ (true ∷ false ∷ false ∷ []) ∷ (false ∷ false ∷ false ∷ []) ∷ []
+  pub mixed_ways : goes_to (rules_of 3 open_1_and_3) mixed_frames ≡ (false ∷ false ∷ true ∷ [])
+      ∷ (false ∷ false ∷ false ∷ []) ∷ (true ∷ false ∷ false ∷ []) ∷ (false ∷ false ∷ false ∷ []) ∷ []

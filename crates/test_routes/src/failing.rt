@@ -66,8 +66,8 @@ fn plan() -> RoutePlan
     }
 }
 
-// What the runs come to in which a call of the port at this index fails: 1,000 for each port that failed and 1 for each
-// entry of a journal.
+// What the runs come to in which a call of the port at this index fails: 1,000 for each port that failed and 1 for
+// each entry of a journal.
 #[derive(Clone, Copy)]
 struct Tally {
     sum: u64,

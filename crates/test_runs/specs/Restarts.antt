@@ -1,5 +1,5 @@
--- A scenario in which a drone starts again between the last item and its acknowledgement, and its report as a person would
--- write it down: the plan is there, and the station can't know it.
+-- A scenario in which a drone starts again between the last item and its acknowledgement, and its report as a person
+-- would write it down: the plan is there, and the station can't know it.
 use Rattle.std.specs.Prelude.{ℕ, List, codes}
 
 abbrev pub restart_between : List ℕ

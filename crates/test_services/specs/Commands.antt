@@ -41,14 +41,16 @@ station = record { sys = 255; comp = 190; link = 0 }
 
 abbrev pub results : ExecutorState → List Message → List (Option ℕ)
 results e [] = []
-results e (m ∷ ms) = result_in (executor_step e station m unready).answer ∷ results (executor_step e station m unready).executor ms
+results e (m ∷ ms) = result_in (executor_step e station m unready).answer
+    ∷ results (executor_step e station m unready).executor ms
 
 abbrev pub actions : ExecutorState → List Message → List (Option Action)
 actions e [] = []
-actions e (m ∷ ms) = (executor_step e station m unready).action ∷ actions (executor_step e station m unready).executor ms
+actions e (m ∷ ms) = (executor_step e station m unready).action
+    ∷ actions (executor_step e station m unready).executor ms
 
--- a mission is started unarmed; the drone is armed, which is repeated, and then asked anew; armed by no word of 0 or 1; and
--- asked for a command that it doesn't know
+-- a mission is started unarmed; the drone is armed, which is repeated, and then asked anew; armed by no word of 0 or
+-- 1; and asked for a command that it doesn't know
 abbrev pub a_day : List Message
 a_day =
     command 300 0 0
@@ -68,7 +70,8 @@ after_streams zero e = e
 after_streams (suc n) e = (executor_step (after_streams n e) (stream n) (command 400 0x3F800000 0) unready).executor
 
 abbrev pub result_of_stream : ℕ → Option ℕ
-result_of_stream n = result_in (executor_step (after_streams n drone) (stream n) (command 400 0x3F800000 0) unready).answer
+result_of_stream n = result_in (executor_step (after_streams n drone) (stream n)
+    (command 400 0x3F800000 0) unready).answer
 
 pub record WorkedCommands : Type 0 where
   pub day : results drone a_day ≡ Some 2 ∷ Some 0 ∷ Some 0 ∷ Some 0 ∷ Some 2 ∷ Some 3 ∷ []

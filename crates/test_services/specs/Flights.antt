@@ -7,7 +7,16 @@ use Rattle.drone_sim.specs.Moves.{towards}
 use Rattle.drone_sim.specs.Sim.{SimState, new_sim, acts, changes, sim_tick}
 
 abbrev pub item : ℕ → ℕ → ℤ → ℤ → Item
-item frame command x y = record { frame = frame; command = command; current = 0; autocontinue = 1; p = 0 ∷ 0 ∷ 0 ∷ 0 ∷ []; x = x; y = y; z = 0 }
+item frame command x y = record {
+  frame = frame;
+  command = command;
+  current = 0;
+  autocontinue = 1;
+  p = 0 ∷ 0 ∷ 0 ∷ 0 ∷ [];
+  x = x;
+  y = y;
+  z = 0;
+}
 
 -- so many items, whose x goes up by one
 abbrev pub in_line : ℕ → ℕ → ℕ → ℕ → List Item
@@ -16,7 +25,8 @@ in_line (suc more) frame command x = item frame command (pos x) (pos 0) ∷ in_l
 
 -- it takes off, flies by twelve points, takes eleven pictures, and lands at the last point
 abbrev pub a_day : List Item
-a_day = item 6 22 (pos 1000) (pos 0) ∷ (in_line 12 6 16 2000 ++ in_line 11 2 2000 0) ++ item 6 21 (pos 2011) (pos 0) ∷ []
+a_day = item 6 22 (pos 1000) (pos 0) ∷ (in_line 12 6 16 2000 ++ in_line 11 2 2000 0) ++ item 6 21 (pos 2011) (pos 0)
+    ∷ []
 
 abbrev pub home_at : ℤ → ℤ → SimState
 home_at x y = new_sim (record { x = x; y = y })
@@ -52,7 +62,8 @@ one_point x y = item 6 16 x y ∷ []
 
 -- a picture, by a drone that has taken that many
 abbrev pub pictured : ℕ → SimState
-pictured count = (sim_tick (started (record (home_at (pos 0) (pos 0)) { captures = count })) (item 2 2000 (pos 0) (pos 0) ∷ []) 1000).sim
+pictured count = (sim_tick (started (record (home_at (pos 0) (pos 0)) { captures = count }))
+    (item 2 2000 (pos 0) (pos 0) ∷ []) 1000).sim
 
 -- it has landed at the last point
 abbrev pub on_the_ground : SimState
@@ -72,11 +83,20 @@ pub record WorkedFlights : Type 0 where
   pub down : towards (2 ^ 32 - 1) greatest least ≡ least
   pub nearly : towards (2 ^ 32 - 2) least greatest ≡ pos 2147483646
   pub nearly_down : towards (2 ^ 32 - 2) greatest least ≡ negsuc 2147483646
-  pub across : (after 1 (started (home_at least greatest)) (one_point greatest least) (2 ^ 31)).position ≡ record { x = pos 0; y = negsuc 0 }
-  pub whole : after 2 (started (home_at least greatest)) (one_point greatest least) (2 ^ 31) ≡ record { home = record { x = least; y = greatest }; position = record { x = greatest; y = least }; course = Resting; captures = 0 }
-  pub stays_there : (after 3 (started (home_at greatest least)) (one_point greatest least) (2 ^ 32 - 1)).position ≡ record { x = greatest; y = least }
+  pub across : (after 1 (started (home_at least greatest)) (one_point greatest least) (2 ^ 31)).position
+      ≡ record { x = pos 0; y = negsuc 0 }
+  pub whole : after 2 (started (home_at least greatest)) (one_point greatest least) (2 ^ 31)
+      ≡ record {
+        home = record { x = least; y = greatest };
+        position = record { x = greatest; y = least };
+        course = Resting;
+        captures = 0;
+      }
+  pub stays_there : (after 3 (started (home_at greatest least)) (one_point greatest least) (2 ^ 32 - 1)).position
+      ≡ record { x = greatest; y = least }
   -- a step of 0 acts as 1
-  pub slow : (after 2 (started (home_at (pos 0) (pos 0))) (one_point (negsuc 4) (pos 5)) 0).position ≡ record { x = negsuc 1; y = pos 2 }
+  pub slow : (after 2 (started (home_at (pos 0) (pos 0))) (one_point (negsuc 4) (pos 5)) 0).position
+      ≡ record { x = negsuc 1; y = pos 2 }
   -- the count of pictures stays at the maximum of its type
   pub full : (pictured (2 ^ 32 - 2)).captures ≡ 2 ^ 32 - 1
   pub stays_full : (pictured (2 ^ 32 - 1)).captures ≡ 2 ^ 32 - 1
@@ -85,4 +105,5 @@ pub record WorkedFlights : Type 0 where
   pub not_yet : (after 1 (changes away) a_day 1000).course ≡ Returning
   pub at_home : after 1 (acts (acts (home_at (pos 7) (pos 8)) Arm) Return) [] 1000 ≡ home_at (pos 7) (pos 8)
   -- a change of the mission stops it where it is, and it doesn't go on by itself
-  pub stopped : after 3 (changes (after 2 (started (home_at (pos 0) (pos 0))) a_day 1000)) a_day 1000 ≡ record (home_at (pos 0) (pos 0)) { position = record { x = pos 2000; y = pos 0 }; course = Resting }
+  pub stopped : after 3 (changes (after 2 (started (home_at (pos 0) (pos 0))) a_day 1000)) a_day 1000
+      ≡ record (home_at (pos 0) (pos 0)) { position = record { x = pos 2000; y = pos 0 }; course = Resting }

@@ -1,5 +1,6 @@
 -- Parameters that are set and listed.
-use Rattle.std.specs.Prelude.{ℕ, zero, suc, ℤ, pos, negsuc, ◌≡◌, ◌%◌, ◌==◌, if◌then◌else◌, List, [], ◌∷◌, length, codes, Option, Some, None}
+use Rattle.std.specs.Prelude.{ℕ, zero, suc, ℤ, pos, negsuc, ◌≡◌, ◌%◌, ◌==◌, if◌then◌else◌, List, [], ◌∷◌, length}
+use Rattle.std.specs.Prelude.{codes, Option, Some, None}
 use Rattle.mav_names.specs.declared.names.Stream.{Stream}
 use Rattle.mav_names.specs.declared.names.Name.{Name}
 use Rattle.mav_messages.specs.declared.messages.Message.{Message}
@@ -20,7 +21,13 @@ server = new_server (record { id = long_id; ty = 4; word = 7 } ∷ [])
 
 -- it is set, as a value of a type, by the bytes of its field
 abbrev pub set_to : ℕ → ℕ → Message
-set_to ty word = ParamSet (record { target_system = 1; target_component = 1; param_id = long_id; param_value = word; param_type = ty })
+set_to ty word = ParamSet (record {
+  target_system = 1;
+  target_component = 1;
+  param_id = long_id;
+  param_value = word;
+  param_type = ty;
+})
 
 abbrev pub told : List Message → List ℕ
 told [] = []
@@ -39,12 +46,19 @@ abbrev pub many : ℕ
 many = 1000
 
 abbrev pub value : ℕ → Message
-value index = ParamValue (record { param_id = long_id; param_value = index; param_type = 5; param_count = many; param_index = index })
+value index = ParamValue (record {
+  param_id = long_id;
+  param_value = index;
+  param_type = 5;
+  param_count = many;
+  param_index = index;
+})
 
 -- those below an index, without those of index 2, 5, 8 ..
 abbrev pub two_of_three : ℕ → ClientState → ClientState
 two_of_three zero c = c
-two_of_three (suc n) c = if n % 3 == 2 then two_of_three n c else (client_step (two_of_three n c) sender (value n)).client
+two_of_three (suc n) c = if n % 3 == 2 then two_of_three n c
+    else (client_step (two_of_three n c) sender (value n)).client
 
 -- at a tick the client asks for the first that is missing, and it is sent
 abbrev pub value_asked : ℤ → Message

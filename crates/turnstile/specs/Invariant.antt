@@ -1,5 +1,6 @@
 -- The invariant of the ticket lock, which every step keeps.
-use Rattle.std.specs.Prelude.{◌≡◌, ℕ, ◌+◌, ◌%◌, ◌^◌, ◌<◌, ◌≤◌, ◌⊎◌, List, [], ◌∷◌, length, All, true, false, if◌then◌else◌, Option, Some, is_some}
+use Rattle.std.specs.Prelude.{◌≡◌, ℕ, ◌+◌, ◌%◌, ◌^◌, ◌<◌, ◌≤◌, ◌⊎◌, List, [], ◌∷◌, length, All, true, false}
+use Rattle.std.specs.Prelude.{if◌then◌else◌, Option, Some, is_some}
 use mathlib.Core.Option as maybe
 use mathlib.Core.List.{IsPrefix}
 use lib.ListN.{get_elem?}
@@ -36,13 +37,16 @@ module _ {E : Type 0} where
     pub has_turn : p.has_turn ≡ true → (p.ticket ≡ Some turns) × (p.seen ≡ history)
 
 module _ {V E : Type 0} (journal : V → List E) where
-  -- the value is in its slot, its entries are the history, and nobody has the turn; or the slot is out, and somebody has the turn
+  -- the value is in its slot, its entries are the history, and nobody has the turn; or the slot is out, and somebody
+  -- has the turn
   abbrev pub IsLocated : List (maybe.Option (Option V)) → List (ParticipantState E) → List E → Type 0
   IsLocated slots ps history =
       ((x : V) × (slots ≡ maybe.some (Some x) ∷ []) × (journal x ≡ history) × Each ps (λ _ p. p.has_turn ≡ false))
-      ⊎ ((slots ≡ maybe.none ∷ []) × ((j : ℕ) × (p : ParticipantState E) × (get_elem? ps j ≡ maybe.some p) × (p.has_turn ≡ true)))
+      ⊎ ((slots ≡ maybe.none ∷ []) × ((j : ℕ) × (p : ParticipantState E) × (get_elem? ps j ≡ maybe.some p)
+      × (p.has_turn ≡ true)))
 
-  -- Tickets and turns are counted modulo 2^64. There are at most 255 handles, so the number of a ticket tells it apart from the others that are held
+  -- Tickets and turns are counted modulo 2^64. There are at most 255 handles, so the number of a ticket tells it apart
+  -- from the others that are held
   pub record TurnInvariant (opening handles : ℕ) (s : State (Option V) (ParticipantState E)) : Type 0 where
     pub tickets : ℕ
     pub turns : ℕ
@@ -53,7 +57,8 @@ module _ {V E : Type 0} (journal : V → List E) where
     pub few : handles ≤ 255
     pub each : Each s.views (λ _ p. IsConsistent tickets turns history p)
     -- no two participants have one ticket
-    pub apart : (j k : ℕ) (p q : ParticipantState E) (t : ℕ) → get_elem? s.views j ≡ maybe.some p → get_elem? s.views k ≡ maybe.some q → p.ticket ≡ Some t → q.ticket ≡ Some t → j ≡ k
+    pub apart : (j k : ℕ) (p q : ParticipantState E) (t : ℕ) → get_elem? s.views j ≡ maybe.some p
+        → get_elem? s.views k ≡ maybe.some q → p.ticket ≡ Some t → q.ticket ≡ Some t → j ≡ k
     -- the opening value's entries and all own entries are as many as the history's
     pub added : length history ≡ opening + own_entries s.views
     pub located : IsLocated s.homes s.views history

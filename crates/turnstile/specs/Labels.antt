@@ -13,7 +13,8 @@ module _ {E : Type 0} where
   EachPasses p [] = Unit {0}
   EachPasses p (e ∷ es) = (p e ≡ true) × EachPasses p es
 
--- if each of n participants added the entries with its own label, and the history has no others, then the history's entries with a label are those of that participant, in its order
+-- if each of n participants added the entries with its own label, and the history has no others, then the history's
+-- entries with a label are those of that participant, in its order
 abbrev pub EachLabelHasItsOwn : Type 0 → Type 0
 EachLabelHasItsOwn E = (history : List E) (label : E → ℕ) (n : ℕ) (own : ℕ → List E) (positions : ℕ → List ℕ)
     → ((i : ℕ) → i < n → StandAt history 0 (positions i) (own i) × EachPasses (λ e. label e == i) (own i))

@@ -18,10 +18,12 @@ module _ {E : Type 0} where
   Continues history p = IsPrefix p.seen history
 
   -- the merged participant represents the handles that aren't left
-  pub record IsMerged {V : Type 0} (l : Lock E) (id : TableId) (m : Me (Option V) (ParticipantState E)) (left handles : List (Participant E)) : Type 0 where
+  pub record IsMerged {V : Type 0} (l : Lock E) (id : TableId) (m : Me (Option V) (ParticipantState E))
+      (left handles : List (Participant E)) : Type 0 where
     pub of : id ≡ l.id
     pub outside : IsOutside m
     pub others : All (CanEnter l) left
     pub counts : m.0.represents + length left ≡ length handles
     pub owns : length m.0.own + sum_by (λ p. length p.own) left ≡ sum_by (λ p. length p.own) handles
-    pub began : (history : List E) → Extends history m.0 → All (Continues history) left → All (Continues history) handles
+    pub began : (history : List E) → Extends history m.0 → All (Continues history) left
+        → All (Continues history) handles

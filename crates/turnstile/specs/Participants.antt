@@ -12,7 +12,8 @@ pub record Lock (E : Type 0) : Type 0 where
   pub opening : List E
   pub handles : ℕ
 
--- a `TurnSeat`: of which `Turn` it is, the history that it has seen, its own entries with their positions there, and whether it is between `enter` and `leave`
+-- a `TurnSeat`: of which `Turn` it is, the history that it has seen, its own entries with their positions there, and
+-- whether it is between `enter` and `leave`
 pub record Participant (E : Type 0) : Type 0 where
   pub lock : TableId
   pub seen : List E
@@ -22,17 +23,28 @@ pub record Participant (E : Type 0) : Type 0 where
 
 abbrev pub lock_code : {E : Type 0} → Coded E → Coded (Lock E)
 lock_code {E} code =
-    code_by (TableId × (List E × ℕ)) (coded× table_id_coded (coded× (coded_list code) coded_ℕ)) (λ l. (l.id, (l.opening, l.handles)))
+    code_by (TableId × (List E × ℕ)) (coded× table_id_coded (coded× (coded_list code) coded_ℕ))
+    (λ l. (l.id, (l.opening, l.handles)))
     (λ p. record { id = p.0; opening = p.1.0; handles = p.1.1 }) (λ _. refl)
 
 abbrev pub participant_code : {E : Type 0} → Coded E → Coded (Participant E)
 participant_code {E} code =
-    code_by (TableId × (List E × (List E × (List ℕ × Bool)))) (coded× table_id_coded (coded× (coded_list code) (coded× (coded_list code) (coded× (coded_list coded_ℕ) coded_bool))))
-    (λ p. (p.lock, (p.seen, (p.own, (p.positions, p.has_turn))))) (λ p. record { lock = p.0; seen = p.1.0; own = p.1.1.0; positions = p.1.1.1.0; has_turn = p.1.1.1.1 }) (λ _. refl)
+    code_by (TableId × (List E × (List E × (List ℕ × Bool))))
+    (coded× table_id_coded (coded× (coded_list code)
+    (coded× (coded_list code) (coded× (coded_list coded_ℕ) coded_bool))))
+    (λ p. (p.lock, (p.seen, (p.own, (p.positions, p.has_turn)))))
+    (λ p. record { lock = p.0; seen = p.1.0; own = p.1.1.0; positions = p.1.1.1.0; has_turn = p.1.1.1.1 })
+    (λ _. refl)
 
 module _ {E : Type 0} where
   abbrev pub participant_of : TableId → ParticipantState E → Participant E
-  participant_of id p = record { lock = id; seen = p.seen; own = p.own; positions = p.positions; has_turn = p.has_turn }
+  participant_of id p = record {
+    lock = id;
+    seen = p.seen;
+    own = p.own;
+    positions = p.positions;
+    has_turn = p.has_turn;
+  }
 
   -- the participant that `Turn::new` makes
   abbrev pub opened : TableId → List E → Participant E
@@ -46,7 +58,13 @@ module _ {E : Type 0} where
   abbrev pub left : Participant E → List E → Participant E
   left p history =
       let added = drop (length p.seen) history in
-      record { lock = p.lock; seen = history; own = p.own ++ added; positions = p.positions ++ positions_from (length p.seen) added; has_turn = false }
+      record {
+        lock = p.lock;
+        seen = history;
+        own = p.own ++ added;
+        positions = p.positions ++ positions_from (length p.seen) added;
+        has_turn = false;
+      }
 
   -- its own entries stand in what it has seen, at the positions that it keeps, each once and in the order of its turns
   abbrev pub HasItsOwn : Participant E → Type 0

@@ -1,9 +1,9 @@
 //! A ticket lock round one value that keeps a list of entries, its history.
 //!
-//! Its main types are [`Turn`], the lock with the value, [`TurnSeat`], the handle of one participant, and [`Held`], the
-//! value while its participant has the turn. Participants get their turns in the order of their tickets. All threads
-//! together make one history: what a participant has seen is a prefix of it, and the entries that it added stand in it,
-//! each once and in the order of its turns. Nothing here says that a participant ever gets its turn.
+//! Its main types are [`Turn`], the lock with the value, [`TurnSeat`], the handle of one participant, and [`Held`],
+//! the value while its participant has the turn. Participants get their turns in the order of their tickets. All
+//! threads together make one history: what a participant has seen is a prefix of it, and the entries that it added
+//! stand in it, each once and in the order of its turns. Nothing here says that a participant ever gets its turn.
 #![tactic(auto)]
 
 mod held;

@@ -36,7 +36,8 @@ impl<V: Journaled + Drop> TicketLock<V> {
         requires { (0 < handles) × (handles ≤ 255) }
         ensures of { IfOk result (λ r. r.1.table_id ≡ r.0.table.shared.table_id) }
         ensures first { IfOk result (λ r. r.1.me ≡ (after (opens (V.journal value) handles) retired, [])) }
-        ensures key { IfOk result (λ r. (r.0.table.shared.key.value.value ≡ value) × (r.0.table.shared.key.handles ≡ handles)) }
+        ensures key { IfOk result (λ r. (r.0.table.shared.key.value.value ≡ value)
+            × (r.0.table.shared.key.handles ≡ handles)) }
     {
         let about = Opening {
             value: Snapshot::of(&value),
@@ -147,7 +148,11 @@ impl<V: Journaled + Drop> TicketLock<V> {
         requires inside { IsInside seat.old.me }
         requires appended { IsPrefix seat.old.me.0.seen (V.journal value) }
         ensures of { seat.new.table_id ≡ seat.old.table_id }
-        ensures state { seat.new.me ≡ (after (releases (drop (length seat.old.me.0.seen) (V.journal value))) seat.old.me.0, []) }
+        ensures state { seat.new.me ≡ (
+          after (releases (drop (length seat.old.me.0.seen) (V.journal value)))
+              seat.old.me.0,
+          [],
+        ) }
         ensures stand { OwnEntriesStand seat.old.me.0 → OwnEntriesStand seat.new.me.0 }
     {
         let shared = &self.table.shared;
@@ -164,7 +169,8 @@ impl<V: Journaled + Drop> TicketLock<V> {
         seat: &mut Seat<Option<V>, ParticipantState<V::Entry>>,
         other: Seat<Option<V>, ParticipantState<V::Entry>>,
     )
-        requires of { (seat.old.table_id ≡ self.now.table.shared.table_id) × (other.table_id ≡ self.now.table.shared.table_id) }
+        requires of { (seat.old.table_id ≡ self.now.table.shared.table_id)
+            × (other.table_id ≡ self.now.table.shared.table_id) }
         requires outside { IsOutside seat.old.me × IsOutside other.me }
         ensures of { seat.new.table_id ≡ seat.old.table_id }
         ensures both { seat.new.me ≡ (after (joins other.me.0) seat.old.me.0, []) }
@@ -179,7 +185,8 @@ impl<V: Journaled + Drop> TicketLock<V> {
         requires all { seat.me.0.represents ≡ self.table.shared.key.handles }
         ensures begins { IsPrefix seat.me.0.seen (V.journal result) }
         ensures merged { All (λ xs. IsPrefix xs (V.journal result)) seat.me.0.merged }
-        ensures added { length (V.journal result) ≡ length (V.journal self.table.shared.key.value.value) + length seat.me.0.own }
+        ensures added { length (V.journal result) ≡ length (V.journal self.table.shared.key.value.value)
+            + length seat.me.0.own }
     {
         let TicketLock { table } = self;
         let mut closed = table.close_with(seat);

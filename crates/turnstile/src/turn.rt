@@ -51,8 +51,8 @@ impl<V: Journaled + Drop> Turn<V> {
         Ok((Turn { lock }, all))
     }
 
-    /// Waits for this participant's turn, and gives the value. It polls a thousand times without a pause, and from then on
-    /// sleeps between two polls until a turn is passed on.
+    /// Waits for this participant's turn, and gives the value. It polls a thousand times without a pause, and from
+    /// then on sleeps between two polls until a turn is passed on.
     pub fn enter<R: Wait>(&self, rt: &R, seat: &mut TurnSeat<V>) -> Held<V>
         requires { CanEnter self.now seat.old }
         ensures begins { IsPrefix seat.old.seen (V.journal result.value) }
@@ -64,8 +64,8 @@ impl<V: Journaled + Drop> Turn<V> {
         }
     }
 
-    /// Takes the value back, and passes the turn on. Its entries are those that `enter` gave it with, and then what this
-    /// participant added.
+    /// Takes the value back, and passes the turn on. Its entries are those that `enter` gave it with, and then what
+    /// this participant added.
     pub fn leave(&self, seat: &mut TurnSeat<V>, held: Held<V>)
         requires of { seat.old.lock ≡ self.now.id }
         requires inside { seat.old.has_turn ≡ true }

@@ -15,7 +15,8 @@ zeros (suc count) register = zeros count (zero_byte register)
 abbrev pub eight_at : ℕ → List ℕ → List ℕ
 eight_at at bytes =
     slice_index bytes at ∷ slice_index bytes (at + 1) ∷ slice_index bytes (at + 2) ∷ slice_index bytes (at + 3) ∷
-    slice_index bytes (at + 4) ∷ slice_index bytes (at + 5) ∷ slice_index bytes (at + 6) ∷ slice_index bytes (at + 7) ∷ []
+    slice_index bytes (at + 4) ∷ slice_index bytes (at + 5) ∷ slice_index bytes (at + 6) ∷ slice_index bytes (at + 7)
+    ∷ []
 
 -- the four bytes from an index on
 abbrev pub four_at : ℕ → List ℕ → List ℕ

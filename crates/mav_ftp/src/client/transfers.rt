@@ -1,7 +1,8 @@
 // An open operation: what it asks, and what a reply makes of it.
 ghost use Rattle.std.specs.Prelude.{◌≡◌, ◌+◌, ◌≤◌, ◌<◌, ◌++◌, [], length, nat_lt, IsTrue, IfOk, OnOk, OnErr};
 ghost use Rattle.mav_ftp.specs.Payload.{most_data, most_file};
-ghost use Rattle.mav_ftp.specs.Client.{Writing, transfer_request, request_data, offset_of, least_size, is_reply, entries_in, next_write, acknowledged, denied, replied, idle_limit, most_taken};
+ghost use Rattle.mav_ftp.specs.Client.{Writing, transfer_request, request_data, offset_of, least_size, is_reply};
+ghost use Rattle.mav_ftp.specs.Client.{entries_in, next_write, acknowledged, denied, replied, idle_limit, most_taken};
 ghost use Rattle.mav_ftp.specs.Replies.{next_seq};
 ghost use Rattle.mav_ftp.specs.ClientView.{stage_view, in_session, IsStage, course_of};
 
@@ -181,7 +182,8 @@ impl OpenTransfer {
     // An ACK with a session and this data.
     fn acknowledge(&mut self, session: u8, given: &[u8]) -> Result<Course, NoMemory>
         requires { length self.old.bytes + length given.now ≤ most_taken }
-        ensures course { IfOk result (λ course. course_of self.new course ≡ acknowledged self.old self.old.phase session given.now) }
+        ensures course { IfOk result (λ course. course_of self.new course
+            ≡ acknowledged self.old self.old.phase session given.now) }
         ensures err { OnErr result (self.new ≡ self.old) }
     {
         match self.stage {
@@ -217,8 +219,8 @@ impl OpenTransfer {
         }
     }
 
-    /// What the reply with these numbers and this data makes of the operation. It changes nothing if there is no memory for
-    /// the bytes that are taken.
+    /// What the reply with these numbers and this data makes of the operation. It changes nothing if there is no
+    /// memory for the bytes that are taken.
     pub fn take(&mut self, reply: &FtpFields, given: &[u8]) -> Result<Course, NoMemory>
         requires { length self.old.bytes + length given.now ≤ most_taken }
         ensures course { IfOk result (λ course. course_of self.new course ≡ replied self.old reply.now given.now) }

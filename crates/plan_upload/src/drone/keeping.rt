@@ -70,7 +70,8 @@ impl Drone {
         msg: &PlanMsg,
     ) -> Result<Vec<u8>, NoMemory>
         requires { floor < 2 ^ 48 }
-        ensures image { IfOk result (λ bytes. IsImageOf self.now.sys floor (drone_step true self.now from msg.now).drone.plans bytes.items) }
+        ensures image { IfOk result (λ bytes. IsImageOf self.now.sys floor
+            (drone_step true self.now from msg.now).drone.plans bytes.items) }
         ensures short { IfOk result (λ bytes. vec_len bytes ≤ most_bytes) }
     {
         self.upload.see_kind();

@@ -2,7 +2,8 @@
 ghost use Rattle.std.specs.Prelude.{◌≡◌, ◌<◌, ◌≤◌, Some, IsTrue, true};
 ghost use Rattle.plan_items.specs.Kinds.{number_of, limit_of};
 ghost use Rattle.plan_upload.specs.Changes.{change_by, install_of};
-ghost use Rattle.plan_upload.specs.Drone.{closed, opened, count_comes, item_comes, ack_comes, cancel_comes, clear_comes, list_comes, request_comes, is_own};
+ghost use Rattle.plan_upload.specs.Drone.{closed, opened, count_comes, item_comes, ack_comes, cancel_comes};
+ghost use Rattle.plan_upload.specs.Drone.{clear_comes, list_comes, request_comes, is_own};
 ghost use Rattle.plan_upload.specs.Gathering.{acked_of, is_sound_with, installed_by, kind_in};
 ghost use Rattle.plan_upload.specs.Room.{has_place};
 ghost use Rattle.plan_upload.specs.declared.changes.Change.TheVariants.{Same};
@@ -98,7 +99,8 @@ impl Drone {
     ) -> DroneStep
         ensures drone { self.new ≡ (item_comes keeps self.old from self.old.upload seq kind item.now).drone }
         ensures answer { result.answer ≡ (item_comes keeps self.old from self.old.upload seq kind item.now).answer }
-        ensures change { result.change ≡ change_by (item_comes keeps self.old from self.old.upload seq kind item.now).event }
+        ensures change { result.change ≡ change_by
+            (item_comes keeps self.old from self.old.upload seq kind item.now).event }
     {
         match self.upload.judge(from, seq, kind, item) {
             Verdict::NotOwn => unchanging(None),

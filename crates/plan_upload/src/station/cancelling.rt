@@ -18,8 +18,10 @@ impl Station {
         number: u32,
         code: u8,
     ) -> Option<PlanMsg>
-        ensures station { let o = cancelling_view drone task terminating number in self.new ≡ (synchronises (with_operation self.old o) o code).station }
-        ensures answer { let o = cancelling_view drone task terminating number in result ≡ (synchronises (with_operation self.old o) o code).answer }
+        ensures station { let o = cancelling_view drone task terminating number in
+            self.new ≡ (synchronises (with_operation self.old o) o code).station }
+        ensures answer { let o = cancelling_view drone task terminating number in
+            result ≡ (synchronises (with_operation self.old o) o code).answer }
     {
         if terminating {
             self.end(drone, task.outcome(code));
@@ -37,8 +39,10 @@ impl Station {
         number: u32,
         msg: &PlanMsg,
     ) -> Option<PlanMsg>
-        ensures station { let o = cancelling_view drone task terminating number in self.new ≡ (phase_step (with_operation self.old o) o Cancelling msg.now).station }
-        ensures answer { let o = cancelling_view drone task terminating number in result ≡ (phase_step (with_operation self.old o) o Cancelling msg.now).answer }
+        ensures station { let o = cancelling_view drone task terminating number in
+            self.new ≡ (phase_step (with_operation self.old o) o Cancelling msg.now).station }
+        ensures answer { let o = cancelling_view drone task terminating number in
+            result ≡ (phase_step (with_operation self.old o) o Cancelling msg.now).answer }
     {
         if let PlanMsg::Ack { code, .. } = *msg {
             if code == MissionResult::ACCEPTED

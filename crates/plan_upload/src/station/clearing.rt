@@ -18,8 +18,10 @@ impl Station {
         idle: u8,
         msg: &PlanMsg,
     ) -> Option<PlanMsg>
-        ensures station { let o = clearing_view drone kind idle in self.new ≡ (phase_step (with_operation self.old o) o Clearing msg.now).station }
-        ensures answer { let o = clearing_view drone kind idle in result ≡ (phase_step (with_operation self.old o) o Clearing msg.now).answer }
+        ensures station { let o = clearing_view drone kind idle in
+            self.new ≡ (phase_step (with_operation self.old o) o Clearing msg.now).station }
+        ensures answer { let o = clearing_view drone kind idle in
+            result ≡ (phase_step (with_operation self.old o) o Clearing msg.now).answer }
     {
         match *msg {
             PlanMsg::Ack { code, .. } if code == MissionResult::ACCEPTED => {
@@ -41,8 +43,10 @@ impl Station {
         kind: Option<PlanKind>,
         idle: u8,
     ) -> Option<PlanMsg>
-        ensures station { let o = clearing_view drone kind idle in self.new ≡ (phase_tick (with_operation self.old o) o Clearing).station }
-        ensures answer { let o = clearing_view drone kind idle in result ≡ (phase_tick (with_operation self.old o) o Clearing).answer }
+        ensures station { let o = clearing_view drone kind idle in
+            self.new ≡ (phase_tick (with_operation self.old o) o Clearing).station }
+        ensures answer { let o = clearing_view drone kind idle in
+            result ≡ (phase_tick (with_operation self.old o) o Clearing).answer }
     {
         if idle >= LAST_IDLE_TICK {
             return self.resynchronise(drone, Task::Clear(kind), false);

@@ -14,8 +14,10 @@ use plan_items::{Item, MissionResult, PlanMsg};
 impl Station {
     // The next item came.
     fn item_came(&mut self, drone: Stream, get: Download, item: Item) -> Option<PlanMsg>
-        ensures station { let o = getting_view drone get in self.new ≡ (item_got (with_operation self.old o) o (get.items ++ item ∷ [])).station }
-        ensures answer { let o = getting_view drone get in result ≡ (item_got (with_operation self.old o) o (get.items ++ item ∷ [])).answer }
+        ensures station { let o = getting_view drone get in
+            self.new ≡ (item_got (with_operation self.old o) o (get.items ++ item ∷ [])).station }
+        ensures answer { let o = getting_view drone get in
+            result ≡ (item_got (with_operation self.old o) o (get.items ++ item ∷ [])).answer }
     {
         let Download {
             kind,
@@ -45,8 +47,10 @@ impl Station {
         get: Download,
         msg: &PlanMsg,
     ) -> Option<PlanMsg>
-        ensures station { let o = getting_view drone get in self.new ≡ (phase_step (with_operation self.old o) o Getting msg.now).station }
-        ensures answer { let o = getting_view drone get in result ≡ (phase_step (with_operation self.old o) o Getting msg.now).answer }
+        ensures station { let o = getting_view drone get in
+            self.new ≡ (phase_step (with_operation self.old o) o Getting msg.now).station }
+        ensures answer { let o = getting_view drone get in
+            result ≡ (phase_step (with_operation self.old o) o Getting msg.now).answer }
     {
         match *msg {
             PlanMsg::Item {
@@ -70,8 +74,10 @@ impl Station {
 
     // The request again. After five idle ticks the two are synchronised again, and the download starts again.
     pub(crate) fn getting_tick(&mut self, drone: Stream, mut get: Download) -> Option<PlanMsg>
-        ensures station { let o = getting_view drone get in self.new ≡ (phase_tick (with_operation self.old o) o Getting).station }
-        ensures answer { let o = getting_view drone get in result ≡ (phase_tick (with_operation self.old o) o Getting).answer }
+        ensures station { let o = getting_view drone get in
+            self.new ≡ (phase_tick (with_operation self.old o) o Getting).station }
+        ensures answer { let o = getting_view drone get in
+            result ≡ (phase_tick (with_operation self.old o) o Getting).answer }
     {
         if get.idle >= LAST_IDLE_TICK {
             return self.resynchronise(drone, Task::Get(get.into_task()), false);

@@ -14,8 +14,10 @@ use plan_items::{MissionResult, PlanMsg};
 impl Station {
     // The drone has this many items.
     fn counted(&mut self, drone: Stream, get: GetTask, idle: u8, count: u16) -> Option<PlanMsg>
-        ensures station { let o = listing_view drone get idle in self.new ≡ (counted (with_operation self.old o) o count).station }
-        ensures answer { let o = listing_view drone get idle in result ≡ (counted (with_operation self.old o) o count).answer }
+        ensures station { let o = listing_view drone get idle in
+            self.new ≡ (counted (with_operation self.old o) o count).station }
+        ensures answer { let o = listing_view drone get idle in
+            result ≡ (counted (with_operation self.old o) o count).answer }
     {
         let GetTask { kind, mut items } = get;
         items.clear();
@@ -44,8 +46,10 @@ impl Station {
         idle: u8,
         msg: &PlanMsg,
     ) -> Option<PlanMsg>
-        ensures station { let o = listing_view drone get idle in self.new ≡ (phase_step (with_operation self.old o) o Listing_items msg.now).station }
-        ensures answer { let o = listing_view drone get idle in result ≡ (phase_step (with_operation self.old o) o Listing_items msg.now).answer }
+        ensures station { let o = listing_view drone get idle in
+            self.new ≡ (phase_step (with_operation self.old o) o Listing_items msg.now).station }
+        ensures answer { let o = listing_view drone get idle in
+            result ≡ (phase_step (with_operation self.old o) o Listing_items msg.now).answer }
     {
         match *msg {
             PlanMsg::Count { count, kind, .. } if kind == get.kind.number() => {
@@ -65,8 +69,10 @@ impl Station {
 
     // After five idle ticks the two are synchronised again, and the list is asked for once more.
     pub(crate) fn listing_tick(&mut self, drone: Stream, get: GetTask, idle: u8) -> Option<PlanMsg>
-        ensures station { let o = listing_view drone get idle in self.new ≡ (phase_tick (with_operation self.old o) o Listing_items).station }
-        ensures answer { let o = listing_view drone get idle in result ≡ (phase_tick (with_operation self.old o) o Listing_items).answer }
+        ensures station { let o = listing_view drone get idle in
+            self.new ≡ (phase_tick (with_operation self.old o) o Listing_items).station }
+        ensures answer { let o = listing_view drone get idle in
+            result ≡ (phase_tick (with_operation self.old o) o Listing_items).answer }
     {
         if idle >= LAST_IDLE_TICK {
             return self.resynchronise(drone, Task::Get(get), false);

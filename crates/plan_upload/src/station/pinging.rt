@@ -38,8 +38,10 @@ impl Station {
         number: Option<u32>,
         msg: &PlanMsg,
     ) -> Option<PlanMsg>
-        ensures station { let o = pinging_view drone task terminating number in self.new ≡ (phase_step (with_operation self.old o) o Pinging msg.now).station }
-        ensures answer { let o = pinging_view drone task terminating number in result ≡ (phase_step (with_operation self.old o) o Pinging msg.now).answer }
+        ensures station { let o = pinging_view drone task terminating number in
+            self.new ≡ (phase_step (with_operation self.old o) o Pinging msg.now).station }
+        ensures answer { let o = pinging_view drone task terminating number in
+            result ≡ (phase_step (with_operation self.old o) o Pinging msg.now).answer }
     {
         if !self.is_reply(number, msg) {
             self.stay_pinging(drone, task, terminating, number);
@@ -59,8 +61,10 @@ impl Station {
         terminating: bool,
         number: Option<u32>,
     ) -> Option<PlanMsg>
-        ensures station { let o = pinging_view drone task terminating number in self.new ≡ (phase_tick (with_operation self.old o) o Pinging).station }
-        ensures answer { let o = pinging_view drone task terminating number in result ≡ (phase_tick (with_operation self.old o) o Pinging).answer }
+        ensures station { let o = pinging_view drone task terminating number in
+            self.new ≡ (phase_tick (with_operation self.old o) o Pinging).station }
+        ensures answer { let o = pinging_view drone task terminating number in
+            result ≡ (phase_tick (with_operation self.old o) o Pinging).answer }
     {
         self.stay_pinging(drone, task, terminating, number);
         let seq = number?;

@@ -2,7 +2,8 @@
 ghost use Rattle.std.specs.Prelude.{◌≡◌};
 ghost use Rattle.plan_upload.specs.Operations.{sending_view};
 ghost use Rattle.plan_upload.specs.Requests.{item_at, is_count_refusal};
-ghost use Rattle.plan_upload.specs.Station.{Sending, with_operation, phase_step, phase_tick, item_asked, upload_acked, refused};
+ghost use Rattle.plan_upload.specs.Station.{Sending, with_operation, phase_step, phase_tick, item_asked, upload_acked};
+ghost use Rattle.plan_upload.specs.Station.{refused};
 
 use super::Station;
 use crate::Outcome;
@@ -29,8 +30,10 @@ impl Station {
         idle: u8,
         seq: u16,
     ) -> Option<PlanMsg>
-        ensures station { let o = sending_view drone upload idle in self.new ≡ (item_asked (with_operation self.old o) o seq (item_at upload seq)).station }
-        ensures answer { let o = sending_view drone upload idle in result ≡ (item_asked (with_operation self.old o) o seq (item_at upload seq)).answer }
+        ensures station { let o = sending_view drone upload idle in
+            self.new ≡ (item_asked (with_operation self.old o) o seq (item_at upload seq)).station }
+        ensures answer { let o = sending_view drone upload idle in
+            result ≡ (item_asked (with_operation self.old o) o seq (item_at upload seq)).answer }
     {
         let Some(item) = upload.plan.get(usize::from(seq)) else {
             self.stay(drone, Stage::Sending { upload, idle });
@@ -57,8 +60,10 @@ impl Station {
         idle: u8,
         code: u8,
     ) -> Option<PlanMsg>
-        ensures station { let o = sending_view drone upload idle in self.new ≡ (refused (with_operation self.old o) o code).station }
-        ensures answer { let o = sending_view drone upload idle in result ≡ (refused (with_operation self.old o) o code).answer }
+        ensures station { let o = sending_view drone upload idle in
+            self.new ≡ (refused (with_operation self.old o) o code).station }
+        ensures answer { let o = sending_view drone upload idle in
+            result ≡ (refused (with_operation self.old o) o code).answer }
     {
         upload.code = Some(code);
         self.resynchronise(drone, Task::Upload(upload), true)
@@ -72,8 +77,10 @@ impl Station {
         idle: u8,
         code: u8,
     ) -> Option<PlanMsg>
-        ensures station { let o = sending_view drone upload idle in self.new ≡ (upload_acked (with_operation self.old o) o code).station }
-        ensures answer { let o = sending_view drone upload idle in result ≡ (upload_acked (with_operation self.old o) o code).answer }
+        ensures station { let o = sending_view drone upload idle in
+            self.new ≡ (upload_acked (with_operation self.old o) o code).station }
+        ensures answer { let o = sending_view drone upload idle in
+            result ≡ (upload_acked (with_operation self.old o) o code).answer }
     {
         if upload.asked && code == MissionResult::ACCEPTED && upload.final_sent {
             self.end(drone, Outcome::Installed);
@@ -98,8 +105,10 @@ impl Station {
         idle: u8,
         msg: &PlanMsg,
     ) -> Option<PlanMsg>
-        ensures station { let o = sending_view drone upload idle in self.new ≡ (phase_step (with_operation self.old o) o Sending msg.now).station }
-        ensures answer { let o = sending_view drone upload idle in result ≡ (phase_step (with_operation self.old o) o Sending msg.now).answer }
+        ensures station { let o = sending_view drone upload idle in
+            self.new ≡ (phase_step (with_operation self.old o) o Sending msg.now).station }
+        ensures answer { let o = sending_view drone upload idle in
+            result ≡ (phase_step (with_operation self.old o) o Sending msg.now).answer }
     {
         match *msg {
             PlanMsg::Request { seq, kind, .. } if kind == upload.kind.number() => {
@@ -120,8 +129,10 @@ impl Station {
         upload: UploadTask,
         idle: u8,
     ) -> Option<PlanMsg>
-        ensures station { let o = sending_view drone upload idle in self.new ≡ (phase_tick (with_operation self.old o) o Sending).station }
-        ensures answer { let o = sending_view drone upload idle in result ≡ (phase_tick (with_operation self.old o) o Sending).answer }
+        ensures station { let o = sending_view drone upload idle in
+            self.new ≡ (phase_tick (with_operation self.old o) o Sending).station }
+        ensures answer { let o = sending_view drone upload idle in
+            result ≡ (phase_tick (with_operation self.old o) o Sending).answer }
     {
         if idle >= LAST_IDLE_TICK {
             return self.resynchronise(drone, Task::Upload(upload), true);
