@@ -86,7 +86,7 @@ despite_by (Some Usage) before after text e = tt
 despite_by (Some (Stopped error)) before after text e = tt
 despite_by (Some ReadFault) before after text e = tt
 despite_by (Some WriteFault) before after text e = inl e
-despite_by (Some NoMemory) before after text e = tt
+despite_by (Some NoMemory) before after text e = inl e
 despite_by (Some TurnsSpent) before after text e = tt
 despite_by (Some (Live end)) before after text e = tt
 
@@ -98,6 +98,7 @@ despite_after (Some (Stopped error)) before middle after text next e same h = tt
 despite_after (Some ReadFault) before middle after text next e same h = tt
 despite_after (Some WriteFault) before middle after text next e same (inl h) = inl (whole_after before.sent middle.sent after.sent text next e h)
 despite_after (Some WriteFault) before middle after text next e same (inr rose) = inr (subst (λ (n : ℕ). Rose n after.faults) same rose)
-despite_after (Some NoMemory) before middle after text next e same h = tt
+despite_after (Some NoMemory) before middle after text next e same (inl h) = inl (whole_after before.sent middle.sent after.sent text next e h)
+despite_after (Some NoMemory) before middle after text next e same (inr rose) = inr (subst (λ (n : ℕ). Rose n after.faults) same rose)
 despite_after (Some TurnsSpent) before middle after text next e same h = tt
 despite_after (Some (Live end)) before middle after text next e same h = tt

@@ -19,10 +19,15 @@ SentBy (Some NoMemory) before after frames = SentPrefix before after frames
 SentBy (Some (Live PortFault)) before after frames = SentPrefix before after frames
 SentBy other before after frames = after ≡ append_known before frames
 
--- an output that failed takes no frame from the port: all of them were sent, unless the port failed too
-abbrev pub SentDespite : Option RunEnd → (before after : LinkState) → List ℕ → Type 0
-SentDespite (Some WriteFault) before after frames =
+-- the port got all frames, or failed
+abbrev pub SentOrFailed : (before after : LinkState) → List ℕ → Type 0
+SentOrFailed before after frames =
     (after.sent ≡ append_known before.sent frames) ⊎ Rose before.faults after.faults
+
+-- an output that failed, and lines for which there is no memory, take no frame from the port
+abbrev pub SentDespite : Option RunEnd → (before after : LinkState) → List ℕ → Type 0
+SentDespite (Some WriteFault) before after frames = SentOrFailed before after frames
+SentDespite (Some NoMemory) before after frames = SentOrFailed before after frames
 SentDespite other before after frames = Unit {0}
 
 -- the output's lines: all of them, or a prefix if the output failed, or memory ran out

@@ -1,7 +1,8 @@
 // A link over two files.
-ghost use Rattle.std.specs.Prelude.{◌≡◌, ◌⊎◌, None, IsSome, IsNone};
-ghost use Rattle.mav_ports.specs.Gets.{given, GivesWithin};
-ghost use Rattle.std.specs.Io.KnownBytes.{Consumes};
+ghost use Rattle.std.specs.Prelude.{◌≡◌, ◌⊎◌, ◌<◌, true, None, IsSome, IsNone, length};
+ghost use Rattle.mav_ports.specs.Gets.{given, CountsFault, EndsOnly, GivesWithin, idles_after, left_in};
+ghost use Rattle.mav_ports.specs.Puts.{taken, CountsRefusal, TakesWithin};
+ghost use Rattle.std.specs.Io.KnownBytes.{Appends, Consumes};
 ghost use Rattle.mav_links.specs.Tallies.{nothing_counted};
 
 use crate::Link;
@@ -56,7 +57,20 @@ impl<R: Read + Send + Drop, W: Write + Send + Drop> Link for FileLink<R, W> {
       ended = l.tally.ended;
     } };
 
-    fn read(&mut self, buf: &mut [u8]) -> Got {
+    fn read(&mut self, buf: &mut [u8]) -> Got
+        requires { 0 < length buf.old }
+        // What every link promises.
+        ensures within { GivesWithin result buf.new }
+        ensures faults { CountsFault result self.old.tally.faults self.new.tally.faults }
+        ensures idles { self.new.tally.idles ≡ idles_after result self.old.tally.idles }
+        ensures ended { result ≡ Got.End → self.new.tally.ended ≡ true }
+        ensures only_end { EndsOnly result (self.old.tally.ended ≡ true) (self.new.tally.ended ≡ true) }
+        ensures stays { self.old.tally.ended ≡ true → result ≡ Got.End }
+
+        // It gives exactly what the reader consumed.
+        ensures consumed { Consumes (left_in R.remaining self.old.reader) (left_in R.remaining self.new.reader)
+            (given result buf.new) }
+    {
         if self.tally.ended {
             return Got::End;
         }
@@ -68,7 +82,18 @@ impl<R: Read + Send + Drop, W: Write + Send + Drop> Link for FileLink<R, W> {
         got
     }
 
-    fn write(&mut self, bytes: &[u8]) -> Put {
+    fn write(&mut self, bytes: &[u8]) -> Put
+        requires { 0 < length bytes.now }
+        // What every link promises.
+        ensures within { TakesWithin result bytes.now }
+        ensures faults { CountsRefusal result self.old.tally.faults self.new.tally.faults }
+        ensures idles { self.new.tally.idles ≡ self.old.tally.idles }
+        ensures ended { self.new.tally.ended ≡ self.old.tally.ended }
+
+        // The writer got exactly the bytes that were taken.
+        ensures wrote { Appends (left_in W.contents self.old.writer) (left_in W.contents self.new.writer)
+            (taken result bytes.now) }
+    {
         let put = match &mut self.writer {
             Some(writer) => put_once(writer, bytes),
             None => Put::Failed,

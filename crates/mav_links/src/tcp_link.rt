@@ -1,5 +1,8 @@
 // A link over a stream that waits for its bytes.
-ghost use Rattle.std.specs.Prelude.{◌≡◌, None};
+ghost use Rattle.std.specs.Prelude.{◌≡◌, ◌<◌, true, None, length};
+ghost use Rattle.mav_ports.specs.Gets.{given, CountsFault, EndsOnly, GivesWithin, idles_after, left_in};
+ghost use Rattle.mav_ports.specs.Puts.{taken, CountsRefusal, TakesWithin};
+ghost use Rattle.std.specs.Io.KnownBytes.{Appends, Consumes};
 ghost use Rattle.mav_links.specs.Tallies.{nothing_counted};
 
 use crate::tallies::{Tally, put_once, read_waiting};
@@ -39,7 +42,20 @@ impl<S: Read + Write + Waits + Send + Drop> Link for TcpLink<S> {
       ended = l.tally.ended;
     } };
 
-    fn read(&mut self, buf: &mut [u8]) -> Got {
+    fn read(&mut self, buf: &mut [u8]) -> Got
+        requires { 0 < length buf.old }
+        // What every link promises.
+        ensures within { GivesWithin result buf.new }
+        ensures faults { CountsFault result self.old.tally.faults self.new.tally.faults }
+        ensures idles { self.new.tally.idles ≡ idles_after result self.old.tally.idles }
+        ensures ended { result ≡ Got.End → self.new.tally.ended ≡ true }
+        ensures only_end { EndsOnly result (self.old.tally.ended ≡ true) (self.new.tally.ended ≡ true) }
+        ensures stays { self.old.tally.ended ≡ true → result ≡ Got.End }
+
+        // It gives exactly what the stream consumed.
+        ensures consumed { Consumes (left_in S.remaining self.old.stream) (left_in S.remaining self.new.stream)
+            (given result buf.new) }
+    {
         if self.tally.ended {
             return Got::End;
         }
@@ -51,7 +67,18 @@ impl<S: Read + Write + Waits + Send + Drop> Link for TcpLink<S> {
         got
     }
 
-    fn write(&mut self, bytes: &[u8]) -> Put {
+    fn write(&mut self, bytes: &[u8]) -> Put
+        requires { 0 < length bytes.now }
+        // What every link promises.
+        ensures within { TakesWithin result bytes.now }
+        ensures faults { CountsRefusal result self.old.tally.faults self.new.tally.faults }
+        ensures idles { self.new.tally.idles ≡ self.old.tally.idles }
+        ensures ended { self.new.tally.ended ≡ self.old.tally.ended }
+
+        // The stream got exactly the bytes that were taken.
+        ensures wrote { Appends (left_in S.contents self.old.stream) (left_in S.contents self.new.stream)
+            (taken result bytes.now) }
+    {
         let put = match &mut self.stream {
             Some(stream) => put_once(stream, bytes),
             None => Put::Failed,

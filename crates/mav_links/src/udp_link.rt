@@ -1,6 +1,6 @@
 // A link over datagrams.
-ghost use Rattle.std.specs.Prelude.{◌≡◌, ◌<◌, ◌≤◌, ◌++◌, None, Some, length, IfOk};
-ghost use Rattle.mav_ports.specs.Gets.{given, GivesWithin};
+ghost use Rattle.std.specs.Prelude.{◌≡◌, ◌<◌, ◌≤◌, ◌++◌, true, false, None, Some, length, take, IfOk};
+ghost use Rattle.mav_ports.specs.Gets.{given, CountsFault, EndsOnly, GivesWithin, idles_after};
 ghost use Rattle.mav_ports.specs.Puts.{TakesWithin};
 ghost use Rattle.mav_links.specs.Datagrams.{bytes_between};
 ghost use Rattle.mav_links.specs.Links.{IsNoBytes};
@@ -62,6 +62,18 @@ impl<C: Clock + Drop> UdpLink<C> {
         }
     }
 
+    // The buffer has a datagram of so many bytes, of which none was given.
+    fn keep(&mut self, count: usize)
+        requires { count ≤ length self.old.datagram.items }
+        ensures whole { bytes_between self.new.start self.new.end self.new.datagram.items
+            ≡ take count self.old.datagram.items }
+        ensures size { self.new.end ≡ count }
+        ensures counts { self.new.tally ≡ self.old.tally }
+    {
+        self.start = 0;
+        self.end = count;
+    }
+
     // Keeps the bytes of a datagram, if one came, and returns what a read gives where none is left.
     fn receive(&mut self) -> Got
         requires empty { self.old.start ≡ self.old.end }
@@ -72,8 +84,7 @@ impl<C: Clock + Drop> UdpLink<C> {
             return Got::Failed;
         };
         if let Some(count) = socket.receive(&mut self.datagram) {
-            self.start = 0;
-            self.end = count;
+            self.keep(count);
         }
         Got::Idle
     }
@@ -86,6 +97,8 @@ impl<C: Clock + Drop> UdpLink<C> {
         // What was kept is what it gives, and what is kept now.
         ensures kept { bytes_between self.old.start self.old.end self.old.datagram.items
             ≡ given result buf.new ++ bytes_between self.new.start self.new.end self.new.datagram.items }
+        // It gives nothing only where nothing was kept.
+        ensures none_left { IsNoBytes result → self.old.start ≡ self.old.end }
         ensures counts { self.new.tally ≡ self.old.tally }
     {
         let count = (self.end - self.start).min(buf.len());
@@ -110,8 +123,7 @@ impl<C: Clock + Drop> UdpLink<C> {
         let Some(count) = socket.look(&mut self.datagram) else {
             return false;
         };
-        self.start = 0;
-        self.end = count;
+        self.keep(count);
         true
     }
 }
@@ -140,7 +152,21 @@ impl<C: Clock + Send + Drop> Link for UdpLink<C> {
       ended = l.tally.ended;
     } };
 
-    fn read(&mut self, buf: &mut [u8]) -> Got {
+    fn read(&mut self, buf: &mut [u8]) -> Got
+        requires { 0 < length buf.old }
+        // What every link promises.
+        ensures within { GivesWithin result buf.new }
+        ensures faults { CountsFault result self.old.tally.faults self.new.tally.faults }
+        ensures idles { self.new.tally.idles ≡ idles_after result self.old.tally.idles }
+        ensures ended { result ≡ Got.End → self.new.tally.ended ≡ true }
+        ensures only_end { EndsOnly result (self.old.tally.ended ≡ true) (self.new.tally.ended ≡ true) }
+        ensures stays { self.old.tally.ended ≡ true → result ≡ Got.End }
+
+        // What was kept is what it gives, and what is kept now.
+        ensures kept { self.old.start < self.old.end → self.old.tally.ended ≡ false →
+            bytes_between self.old.start self.old.end self.old.datagram.items
+                ≡ given result buf.new ++ bytes_between self.new.start self.new.end self.new.datagram.items }
+    {
         if self.tally.ended {
             return Got::End;
         }

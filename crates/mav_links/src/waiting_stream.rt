@@ -87,7 +87,7 @@ impl<C: Clock + Drop> WaitingStream<C> {
 
     // Passes on what the peer takes now of what waits for it.
     fn pass_on(&mut self) {
-        if self.backlog.is_empty() {
+        if self.failed || self.backlog.is_empty() {
             return;
         }
         let call = self.backlog.pass_on(&mut self.connection);
@@ -148,14 +148,15 @@ impl<C: Clock + Drop> WaitingStream<C> {
     }
 }
 
-// Waits until the peer has taken what waits for it, as long as it takes some.
+// Waits until the peer has taken what waits for it, as long as it takes some; it last did then, if it left bytes.
 fn drain<C: Clock + Drop>(
     backlog: &mut Backlog,
     connection: &mut Connection,
     watch: &mut Watch,
     pace: &Pace<C>,
+    untaken_since: Option<Duration>,
 ) {
-    let mut since = pace.now();
+    let mut since = untaken_since.unwrap_or(pace.now());
     for _look in 0..MOST_LOOKS {
         let left = pace.left_to_write(since);
         if backlog.is_empty() || left.is_zero() {
@@ -263,12 +264,14 @@ impl<C: Clock + Drop> Drop for WaitingStream<C> {
             watch,
             pace,
             backlog,
-            untaken_since: _,
-            failed: _,
+            untaken_since,
+            failed,
             asks: _,
         } = self;
         let (mut backlog, mut connection, mut watch) = (backlog, connection, watch);
-        drain(&mut backlog, &mut connection, &mut watch, &pace);
+        if !failed {
+            drain(&mut backlog, &mut connection, &mut watch, &pace, untaken_since);
+        }
         connection.end_writing();
     }
 }

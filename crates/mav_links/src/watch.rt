@@ -18,8 +18,13 @@ const BELL: Token = Token(1);
 // A wait ends at any of them.
 const MOST_EVENTS: usize = 4;
 
-// So often a rest looks before it sleeps, if the last one ended by something that happened: more may come at once.
-const LOOKS: u32 = 64;
+// So often a rest looks before it sleeps, if something happened soon in the last one: more may come at once.
+const LOOKS: u32 = 512;
+
+const MILLIS_SOON: u64 = 1;
+
+// So many rests sleep at once after one that looked in vain.
+const SLEEPS: u32 = 16;
 
 // So many other ports may rest until something happens at this one.
 const MOST_OTHERS: usize = 8;
@@ -32,6 +37,7 @@ pub struct Watch {
     bell: Arc<Bell>,
     others: Vec<Arc<Bell>>,
     looks: u32,
+    sleeps: u32,
 }
 
 impl Watch {
@@ -45,6 +51,7 @@ impl Watch {
             bell: Arc::new(alloc, bell)?,
             others: Vec::with_capacity(alloc, MOST_OTHERS)?,
             looks: 0,
+            sleeps: 0,
         })
     }
 
@@ -92,14 +99,33 @@ impl Watch {
         looked.is_ok() && !self.events.is_empty()
     }
 
-    /// The same for a port that passes on what comes: it sleeps only once nothing has happened for a moment.
+    /// The same for a port that passes on what comes: where that comes fast, it looks for a moment before it sleeps.
     pub(crate) fn rest(&mut self, most: Duration) {
         for _look in 0..self.looks {
             if self.sees(Duration::ZERO) {
                 return;
             }
         }
-        self.looks = if self.sees(most) { LOOKS } else { 0 };
+        let soon = Duration::from_millis(MILLIS_SOON).min(most);
+        let came_soon = self.sees(soon);
+        self.plan_looks(came_soon);
+        if !came_soon {
+            self.wait(most.saturating_sub(soon));
+        }
+    }
+
+    // How often the next rest looks, after one that saw nothing until it slept.
+    fn plan_looks(&mut self, came_soon: bool) {
+        self.sleeps = if self.looks > 0 {
+            SLEEPS
+        } else {
+            self.sleeps.saturating_sub(1)
+        };
+        self.looks = if came_soon && self.sleeps == 0 {
+            LOOKS
+        } else {
+            0
+        };
     }
 }
 

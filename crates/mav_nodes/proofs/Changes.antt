@@ -1,6 +1,6 @@
 -- A drone's step with a store that keeps what it changes, and with one that doesn't: the system stays, and a step without
 -- a reply changes no plan.
-use Rattle.std.proofs.Common.{◌≡◌, ◌≢◌, ℕ, Bool, true, false, if◌then◌else◌, not, ◌&&◌, nat_lt, length, List, ◌∷◌, [], ◌++◌, Option, Some, None, refl, sym, subst}
+use Rattle.std.proofs.Common.{◌≡◌, ◌≢◌, ℕ, Bool, true, false, if◌then◌else◌, not, ◌&&◌, nat_lt, length, List, ◌∷◌, [], ◌++◌, Option, Some, None, refl, sym, ◌∙◌, subst}
 use Rattle.std.specs.Prelude.{◌==◌, ◌+◌, is_some, slice_get}
 use Rattle.mav_names.specs.declared.names.Stream.{Stream}
 use Rattle.plan_items.specs.declared.items.Item.{Item as PlanItem}
@@ -115,6 +115,10 @@ ticks_still d = waits_still d _ d.upload (record { sys = refl; plans = refl })
 pub same_image : (d e : DroneState) (low : ℕ) (bytes : List ℕ) → e.sys ≡ d.sys → e.plans ≡ d.plans → IsStored d low bytes → IsStored e low bytes
 same_image d e low bytes sys plans is =
     subst (λ n. IsImageOf n low e.plans bytes) (sym sys) (subst (λ p. IsImageOf d.sys low p bytes) (sym plans) is)
+
+-- a drone has one image
+pub one_image : (d : DroneState) (low : ℕ) (a b : List ℕ) → IsStored d low a → IsStored d low b → a ≡ b
+one_image d low a b x y = x.encoded ∙ sym y.encoded
 
 -- a step that changes the plans has a reply, whether or not it is kept
 pub changes_answered : (d : DroneState) (s : Stream) (m : PlanMsg) → (change_of d s m ≡ Same → ⊥) → (kept : Bool) → (drone_step kept d s m).answer ≢ None

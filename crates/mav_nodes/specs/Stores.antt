@@ -82,5 +82,11 @@ HasFailedAt NoMemory faults is_infallible before now = Unit {0}
 -- has
 abbrev pub HasFailedTwice : NodeFault → Option (List ℕ) → (ℕ → List ℕ → Type 0) → Option ℕ → (before now : ℕ) → Type 0
 HasFailedTwice Store contents stored low before now =
-    (old : List ℕ) × AreStored stored low old × IfSome contents (λ kept. kept ≡ old → Rose (next_count before) now)
+    (old : List ℕ) → AreStored stored low old → IfSome contents (λ kept. kept ≡ old → Rose (next_count before) now)
 HasFailedTwice fault contents stored low before now = Unit {0}
+
+-- what a node's store, which had what was stored, says of a fault in a step: two calls failed, or it has the step
+abbrev pub EndsStep : {Core : Type 0} → NodeFault → (contents then : Option (List ℕ)) → (Core → ℕ → List ℕ → Type 0)
+    → (core after : Core) → Option ℕ → (before now : ℕ) → Type 0
+EndsStep fault contents then stored core after low before now =
+    HasFailedTwice fault contents (stored core) low before now ⊎ HoldsFrom then (stored after) low

@@ -1,5 +1,5 @@
 // A node over any core: what it does with the core at its end of the links.
-ghost use Rattle.std.specs.Prelude.{◌≡◌, ◌⊎◌, ◌++◌, ℕ, Bool, false, List, [], length, IfOk, IfErr, OnOk};
+ghost use Rattle.std.specs.Prelude.{◌≡◌, ◌⊎◌, ◌++◌, ℕ, Bool, false, List, [], true, length, IfOk, IfErr, OnOk};
 ghost use Rattle.std.specs.Result.{result_err};
 ghost use Rattle.mav_frame.specs.declared.events.Event.{Event as StreamEvent};
 ghost use Rattle.mav_frame.specs.Packet.{Packet};
@@ -8,7 +8,7 @@ ghost use Rattle.mav_nodes.specs.Steps.{Side, steps, steps_noted, serves, hears,
 ghost use Rattle.mav_nodes.specs.Steps.{IsNode};
 ghost use Rattle.mav_nodes.specs.Services.{ServiceStep};
 ghost use Rattle.mav_nodes.specs.Links.{Link as LinkState, IsLink, sends};
-ghost use Rattle.mav_nodes.specs.Stores.{Holds, HoldsFrom, GivenUp, Serves, HasFailed, IsKept, AllKept};
+ghost use Rattle.mav_nodes.specs.Stores.{Holds, HoldsFrom, GivenUp, Serves, EndsStep, HasFailed, IsKept, AllKept};
 ghost use Rattle.mav_nodes.specs.Cores.{IsServed, rules_of};
 ghost use Rattle.mav_nodes.specs.Promises.{NodeDid, NodeDidKeeping, LinkDid, LinkKeeps, Fails, SpentKeeping};
 ghost use Rattle.mav_nodes.specs.Promises.{FailsKeeping, AtFrame, GivenUpIn};
@@ -57,6 +57,10 @@ fn take<K: Keeper, C: Core, V: Services<C>>(
         (C.taken kept node.core from message.now))
         (λ kept. IsKept kept (HasFailed K.faults K.is_infallible keeper.old keeper.new))
         (HasFailed K.faults K.is_infallible keeper.old keeper.new)) }
+    // A store that kept the old plan ends no step by one fault.
+    ensures ends { IfErr result (λ fault. Holds (K.contents keeper.old) (C.stored core.old) link.old.low
+        → EndsStep fault (K.contents keeper.old) (K.contents keeper.new) C.stored core.old
+        (C.taken true core.old from message.now).core link.old.low (K.faults keeper.old) (K.faults keeper.new)) }
 {
     let kept = save_step(core, keeper, link.alloc(), link.low(), from, message)?;
     let step = core.take(kept, from, message);

@@ -71,6 +71,8 @@ pub(crate) trait Core {
             → (taken kept self.now from message.now).answer ≢ None) }
         ensures same { IfOk result (λ bytes. bytes ≡ None → (low : ℕ) → (b : List ℕ) → stored self.now low b
             → stored (taken true self.now from message.now).core low b) }
+        ensures one { IfOk result (λ bytes. bytes ≢ None → (low : ℕ) → (a b : List ℕ) → stored self.now low a
+            → stored self.now low b → a ≡ b) }
         ensures unkept { (low : ℕ) → (b : List ℕ) → stored self.now low b
             → stored (taken false self.now from message.now).core low b };
 

@@ -3,9 +3,10 @@ use Rattle.std.proofs.Common.{◌≡◌, ◌∙◌, ◌<◌, ◌≤◌, ◌==◌
 use Rattle.std.proofs.Common.{sym, ap, arith, length-append, append_assoc}
 use Rattle.std.specs.List.{flat_map}
 use Rattle.std.proofs.lemmas.List.{append-nil, take-append-drop}
+use Rattle.std.proofs.lemmas.Bool.{cond-true, le-leb}
 use Rattle.std.proofs.lemmas.Bool.Decides.{nat_tests}
 use Rattle.relay_lines.specs.Lines.{LinesState, first_line, has_room, is_empty, line_put, line_written, lines_of}
-use Rattle.relay_lines.specs.Lines.{lost_line, most_lost, one_lost, tell, tell_last}
+use Rattle.relay_lines.specs.Lines.{lines_limit, lost_before, lost_line, most_lost, one_lost, tell, tell_last}
 use Rattle.relay_lines.specs.Telling.{IsAllTold, NoneForNothing, Said, Tells, said_of, said_text}
 use Rattle.relay_lines.specs.Telling.Said.{Line, Lost}
 use Rattle.relay_lines.proofs.Firsts.{by_cases, first_takes, is_below, is_zero}
@@ -139,3 +140,9 @@ tells_wrote all written count lines d few =
           ∙ (sym (append_assoc written (take count waiting) (drop count waiting))
           ∙ ap (λ (l : List ℕ). (written ++ l) ++ drop count waiting) (sym (first_takes count waiting few))));
     })
+
+-- a line with room waits
+pub tells_room : (line : List ℕ) (lines : LinesState) → length (lines.waiting ++ lost_before lines.lost) + length line ≤ lines_limit
+    → line_put line lines ≡ lines_of ((lines.waiting ++ lost_before lines.lost) ++ line) 0
+tells_room line lines fits =
+    cond-true (has_room line lines) _ _ (le-leb (length (lines.waiting ++ lost_before lines.lost) + length line) lines_limit fits)

@@ -1,8 +1,9 @@
 -- What becomes of the lines that were put.
-use Rattle.std.specs.Prelude.{ℕ, ◌==◌, Bool, true, false, if◌then◌else◌, ◌≡◌, ◌<◌, ◌≤◌, ⊤, min, List, [], ◌∷◌, ◌++◌}
+use Rattle.std.specs.Prelude.{ℕ, ◌+◌, ◌==◌, Bool, true, false, if◌then◌else◌, ◌≡◌, ◌<◌, ◌≤◌, ⊤, min, List, [], ◌∷◌, ◌++◌}
 use Rattle.std.specs.Prelude.{length, take}
 use Rattle.std.specs.List.{flat_map}
-use Rattle.relay_lines.specs.Lines.{LinesState, first_line, line_put, line_written, lines_of, lost_line, most_lost}
+use Rattle.relay_lines.specs.Lines.{LinesState, first_line, line_put, line_written, lines_limit, lines_of, lost_before}
+use Rattle.relay_lines.specs.Lines.{lost_line, most_lost}
 
 -- a line that is written tells what was put, or how many lines one after another were lost
 pub data Said : Type 0 where
@@ -54,6 +55,12 @@ IsAllTold lines = length lines.waiting ≡ 0 → lines.lost ≡ 0
 abbrev pub TellsAll : Type 0
 TellsAll = (line : List ℕ) (count : ℕ) (lines : LinesState)
     → IsAllTold (line_put line lines) × IsAllTold (line_written count lines)
+
+-- a line waits behind the others, and what tells how many were lost before it, if that leaves 64 KiB at most
+abbrev pub TellsRoom : Type 0
+TellsRoom = (line : List ℕ) (lines : LinesState)
+    → length (lines.waiting ++ lost_before lines.lost) + length line ≤ lines_limit
+    → line_put line lines ≡ lines_of ((lines.waiting ++ lost_before lines.lost) ++ line) 0
 
 -- a line has its end, and no other end of a line
 abbrev pub is_line : List ℕ → Bool

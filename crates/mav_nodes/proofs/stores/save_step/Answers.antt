@@ -1,4 +1,4 @@
-use Rattle.std.proofs.Common.{◌≡◌, ◌⊎◌, ◌<◌, ℕ, List, [], Option, Some, None, Result, Ok, Err, true, inl, inr, false, refl, sym, subst, arith, ◌^◌}
+use Rattle.std.proofs.Common.{◌≡◌, ◌⊎◌, ◌<◌, ℕ, List, [], Option, Some, None, Result, Ok, Err, true, inl, inr, false, refl, sym, ◌∙◌, subst, arith, ◌^◌}
 use Rattle.std.specs.Prelude.{IfSome, unwrap_or}
 use Rattle.std.proofs.lemmas.Result.{err_from_is_err_and}
 use Rattle.mav_ports.specs.Counts.{Rose, next_count}
@@ -59,9 +59,14 @@ fails_so : {Store : Type 0} (faults : Store → ℕ) (sure : Store → Type 0) (
 fails_so faults sure old now result KeptStore e rose safe = record { count = rose e; fallible = λ s. not_store result e (safe s).1 }
 fails_so faults sure old now result KeptNoMemory e rose safe = tt
 
-failed_twice : (contents : Option (List ℕ)) (stored : ℕ → List ℕ → Type 0) (low : Option ℕ) (old : List ℕ) (before now : ℕ) (result : Result Stored KeepFault) (fault : KeepFault) → result ≡ Err fault → AreStored stored low old → (result ≡ Err KeptStore → IfSome contents (λ kept. kept ≡ old → Rose (next_count before) now)) → HasFailedTwice (fault_of fault) contents stored low before now
-failed_twice contents stored low old before now result KeptStore e is both = (old, is, both e)
-failed_twice contents stored low old before now result KeptNoMemory e is both = tt
+-- what a store may have of a core is one list of bytes
+same_stored : (stored : ℕ → List ℕ → Type 0) (low : Option ℕ) (a b : List ℕ) → ((n : ℕ) (x y : List ℕ) → stored n x → stored n y → x ≡ y) → AreStored stored low a → AreStored stored low b → a ≡ b
+same_stored stored None a b one x y = x ∙ sym y
+same_stored stored (Some low) a b one x y = one low a b x y
+
+failed_twice : (contents : Option (List ℕ)) (stored : ℕ → List ℕ → Type 0) (low : Option ℕ) (old : List ℕ) (before now : ℕ) (result : Result Stored KeepFault) (fault : KeepFault) → result ≡ Err fault → AreStored stored low old → ((n : ℕ) (x y : List ℕ) → stored n x → stored n y → x ≡ y) → (result ≡ Err KeptStore → IfSome contents (λ kept. kept ≡ old → Rose (next_count before) now)) → HasFailedTwice (fault_of fault) contents stored low before now
+failed_twice contents stored low old before now result KeptStore e is one both = λ other at. subst (λ (bytes : List ℕ). IfSome contents (λ kept. kept ≡ bytes → Rose (next_count before) now)) (same_stored stored low old other one is at) (both e)
+failed_twice contents stored low old before now result KeptNoMemory e is one both = tt
 
 pub image_after-requires : goal.image_after-requires
 image_after-requires g c = rw c.unwrap_or.ensures (bound_fits c.args.low c.requires)
@@ -102,7 +107,7 @@ returns-in_err-save_or_load g c =
       unkept = tt;
       serves = record { count = c.save_or_load.ensures.count; infallible = λ h. (c.save_or_load.ensures.infallible h).0 };
       fault = fails_so faults sure c.args.keeper.now then c.save_or_load.result c.in_err-save_or_load.field-0.0 c.in_err-save_or_load.was c.save_or_load.ensures.fault c.save_or_load.ensures.infallible;
-      twice = failed_twice (g.K.Keeper.contents c.args.keeper.now) (g.C.Core.stored c.args.core.now) c.args.low c.in_ok-old.old.items (faults c.args.keeper.now) (faults then) c.save_or_load.result c.in_err-save_or_load.field-0.0 c.in_err-save_or_load.was c.in_ok-old.ensures (rw c.deref.ensures.value at c.save_or_load.ensures.both_failed);
+      twice = failed_twice (g.K.Keeper.contents c.args.keeper.now) (g.C.Core.stored c.args.core.now) c.args.low c.in_ok-old.old.items (faults c.args.keeper.now) (faults then) c.save_or_load.result c.in_err-save_or_load.field-0.0 c.in_err-save_or_load.was c.in_ok-old.ensures (c.in_ok-new.ensures.one (some_new c.in_ok-new.field-0 c.in-Some.new c.in-Some.is)) (rw c.deref.ensures.value at c.save_or_load.ensures.both_failed);
     })
 
 pub returns-in-New : goal.returns-in-New

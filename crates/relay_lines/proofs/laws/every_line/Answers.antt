@@ -1,5 +1,5 @@
 use Rattle.relay_lines.proofs.Ends.{tells_next}
-use Rattle.relay_lines.proofs.Told.{tells_all, tells_put, tells_wrote, tells_new}
+use Rattle.relay_lines.proofs.Told.{tells_all, tells_put, tells_room, tells_wrote, tells_new}
 use Rattle.relay_lines.proofs.laws.every_line.Goals as goal
 
 pub returns-clause-new : goal.returns-clause-new
@@ -16,3 +16,6 @@ returns-clause-next c = tells_next
 
 pub returns-clause-all : goal.returns-clause-all
 returns-clause-all c = tells_all
+
+pub returns-clause-room : goal.returns-clause-room
+returns-clause-room c = tells_room

@@ -3,7 +3,7 @@ use Rattle.std.proofs.lemmas.Result.{err_from_is_err_and}
 use Rattle.plan_image.specs.Image.{IsImageOf}
 use Rattle.plan_upload.specs.Drone.{DroneStep, drone_step}
 use Rattle.plan_upload.proofs.Unkept.{unkept_plans}
-use Rattle.mav_nodes.proofs.Changes.{shapes, same_image, changes_answered}
+use Rattle.mav_nodes.proofs.Changes.{shapes, same_image, one_image, changes_answered}
 use Rattle.mav_nodes.proofs.drone_core.DroneCore.image_after.Goals as goal
 
 pub returns-in_err-kept_after-in_default : goal.returns-in_err-kept_after-in_default
@@ -16,6 +16,7 @@ returns-in_err-kept_after-in_default c =
       short = tt;
       changed = tt;
       same = tt;
+      one = tt;
       unkept = λ low bytes. same_image d (drone_step false d c.args.from c.args.message.now).drone low bytes s.unkept_sys (unkept_plans d c.args.from c.args.message.now);
     })
 
@@ -43,5 +44,6 @@ returns-in_ok-kept_after-in_default c =
       short = omega (arith, c.in_ok-kept_after-in_default.ensures.short);
       changed = λ some. changes_answered d c.args.from m (λ e. c.in_default.not-Same (c.change.ensures.change ∙ e));
       same = λ none. absurd (cc);
+      one = λ some low a b. one_image d low a b;
       unkept = λ low bytes. same_image d (drone_step false d c.args.from m).drone low bytes s.unkept_sys (unkept_plans d c.args.from m);
     }
