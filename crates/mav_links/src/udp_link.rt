@@ -165,7 +165,7 @@ impl<C: Clock + Send + Drop> Link for UdpLink<C> {
         // What was kept is what it gives, and what is kept now.
         ensures kept { self.old.start < self.old.end → self.old.tally.ended ≡ false →
             bytes_between self.old.start self.old.end self.old.datagram.items
-                ≡ given result buf.new ++ bytes_between self.new.start self.new.end self.new.datagram.items }
+            ≡ given result buf.new ++ bytes_between self.new.start self.new.end self.new.datagram.items }
     {
         if self.tally.ended {
             return Got::End;

@@ -270,7 +270,13 @@ impl<C: Clock + Drop> Drop for WaitingStream<C> {
         } = self;
         let (mut backlog, mut connection, mut watch) = (backlog, connection, watch);
         if !failed {
-            drain(&mut backlog, &mut connection, &mut watch, &pace, untaken_since);
+            drain(
+                &mut backlog,
+                &mut connection,
+                &mut watch,
+                &pace,
+                untaken_since,
+            );
         }
         connection.end_writing();
     }

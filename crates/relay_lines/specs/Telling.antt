@@ -1,6 +1,6 @@
 -- What becomes of the lines that were put.
-use Rattle.std.specs.Prelude.{ℕ, ◌+◌, ◌==◌, Bool, true, false, if◌then◌else◌, ◌≡◌, ◌<◌, ◌≤◌, ⊤, min, List, [], ◌∷◌, ◌++◌}
-use Rattle.std.specs.Prelude.{length, take}
+use Rattle.std.specs.Prelude.{ℕ, ◌+◌, ◌==◌, Bool, true, false, if◌then◌else◌, ◌≡◌, ◌<◌, ◌≤◌, ⊤, min, List, [], ◌∷◌}
+use Rattle.std.specs.Prelude.{◌++◌, length, take}
 use Rattle.std.specs.List.{flat_map}
 use Rattle.relay_lines.specs.Lines.{LinesState, first_line, line_put, line_written, lines_limit, lines_of, lost_before}
 use Rattle.relay_lines.specs.Lines.{lost_line, most_lost}

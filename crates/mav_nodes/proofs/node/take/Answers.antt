@@ -100,8 +100,8 @@ returns-in_err-say-clause-ends g c =
     rw (p.1, p.2) (λ held.
     let before = subst (Holds (g.K.Keeper.contents c.args.keeper.now) (g.C.Core.stored c.args.core.now)) (sym c.low.ensures.low) held in
     let holds = from_raised now (g.C.Core.stored core) c.args.link.now.low c.say.new.self.low said.raised
-            (said.given (subst (λ (low : Option ℕ). StoredBefore step.answer contents (g.C.Core.stored core) low) c.low.ensures.low
-            (stored_before contents g.C.Core.stored core did.core step.answer did.answer c.low.result c.take-step.ensures.core c.take-step.ensures.answer (λ none. c.in_ok-kept.ensures.silent none before) (c.in_ok-kept.ensures.nearly before)))) in
+    (said.given (subst (λ (low : Option ℕ). StoredBefore step.answer contents (g.C.Core.stored core) low) c.low.ensures.low
+    (stored_before contents g.C.Core.stored core did.core step.answer did.answer c.low.result c.take-step.ensures.core c.take-step.ensures.answer (λ none. c.in_ok-kept.ensures.silent none before) (c.in_ok-kept.ensures.nearly before)))) in
     step_ends c.in_err-say.field-0.0 kept (g.K.Keeper.contents c.args.keeper.now) now g.C.Core.stored c.args.core.now taken c.args.link.now.low g.K.Keeper.faults g.K.Keeper.is_infallible c.args.keeper.now c.save_step.new.keeper c.say.new.keeper (λ (link : Link). IsLink link c.args.link.now) (λ (link : Link). says c.args.clock [] step.answer [] link) c.in_ok-kept.ensures.unkept (c.in_err-say.ensures.fault [] [])
     (subst (λ (one : g.row.C.Denot). HoldsFrom now (g.C.Core.stored one) c.args.link.now.low) c.take-step.ensures.core holds))
 
