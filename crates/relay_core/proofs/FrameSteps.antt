@@ -18,13 +18,14 @@ use Rattle.relay_rules.specs.Kept.{LinksKept, Represents, head_of}
 use Rattle.relay_rules.specs.States.{LinkState, RelayState, link_at, no_link, taught}
 use Rattle.relay_rules.specs.Steps.{hears}
 use Rattle.relay_core.specs.Flows.{Flow, Goes, Told, each_from, flow_after, nothing_yet, one_told, passes, reaches, told_of, with_if}
-use Rattle.relay_core.specs.Moves.{IsTried, Moved, tells}
+use Rattle.relay_core.specs.Moves.{IsTried, Moved}
 use Rattle.relay_core.specs.RelayRuns.{HasClosed, Hearing, HoldsSoFar, IsOpenAt, IsRun, RelayRun, Sending, Tape}
 use Rattle.relay_core.specs.Scans.{consumed}
 use Rattle.relay_core.specs.Waitings.{WaitingState, WaitsAt, waits}
 use Rattle.relay_core.proofs.Halves.{hearing_frame, hearing_kept, hearing_skips, sending_kept, sending_push, was_heard_kept, was_sent_kept}
 use Rattle.relay_core.proofs.Numbers.{Rising, is_eq, not_eq, one_more, one_place, own_numbered, reaches_closed, reaches_open, run_rises, was_link}
 use Rattle.relay_core.proofs.Places.{each_got, each_length, is_same_or, nothing_there, same_some, set_elsewhere, set_there}
+use Rattle.relay_core.specs.Said.{Said, Tells}
 
 -- ---- lists of links
 
@@ -151,8 +152,8 @@ closed_flow rules packet answer run index n own flow here closed there =
 
 -- ---- the run goes on
 
-pub frame_moves : (rules : Rules) (start : Kept) (run : RelayRun) (index size bits : ℕ) (links later : LinksKept) (scanners : List Held) (queues waiting : List WaitingState) (told telling : Option (List Told)) (held : Held) → index < length links.links → slice_get scanners index ≡ Some held → IsNextSpan held (Frame size) → ((state : RelayState) → Represents links state → IsTried rules index bits (first_packet held) state later told telling) → WaitsAt (length queues) (has_link bits) (encoding (first_packet held)) queues waiting → IsRun rules start run → HoldsSoFar rules run (record { links = links; scanners = scanners; queues = queues }) → Moved rules start run (record { links = later; scanners = set scanners index (consumed size held); queues = waiting }) told telling
-frame_moves rules start run index size bits links later scanners queues waiting told telling held within holds next does pushes is h =
+pub frame_moves : (rules : Rules) (start : Kept) (run : RelayRun) (index size bits : ℕ) (links later : LinksKept) (scanners : List Held) (queues waiting : List WaitingState) {Watcher : Type 0} (told : Watcher → List Said → Type 0) (watcher telling : Watcher) (held : Held) → index < length links.links → slice_get scanners index ≡ Some held → IsNextSpan held (Frame size) → ((state : RelayState) → Represents links state → IsTried rules index bits (first_packet held) state later told watcher telling) → WaitsAt (length queues) (has_link bits) (encoding (first_packet held)) queues waiting → IsRun rules start run → HoldsSoFar rules run (record { links = links; scanners = scanners; queues = queues }) → Moved rules start run (record { links = later; scanners = set scanners index (consumed size held); queues = waiting }) told watcher telling
+frame_moves rules start run index size bits links later scanners queues waiting told watcher telling held within holds next does pushes is h =
     let state = run.course.state in
     let packet = first_packet held in
     let g = does state h.links in
@@ -197,12 +198,12 @@ frame_moves rules start run index size bits links later scanners queues waiting 
       frames = tt;
       more = told_of rules event state.links;
       course = refl;
-      tells_it = g.tells_it ∙ ap (tells told) (sym own_is);
+      tells_it = subst (Tells told watcher telling) (sym own_is) g.tells_it;
     }
 
 -- some bytes are skipped
-pub skip_moves : (rules : Rules) (start : Kept) (run : RelayRun) (index count : ℕ) (why : Why) (links : LinksKept) (scanners : List Held) (queues : List WaitingState) (told : Option (List Told)) (held : Held) → slice_get scanners index ≡ Some held → IsNextSpan held (Skipped why count) → IsRun rules start run → HoldsSoFar rules run (record { links = links; scanners = scanners; queues = queues }) → Moved rules start run (record { links = links; scanners = set scanners index (consumed count held); queues = queues }) told told
-skip_moves rules start run index count why links scanners queues told held there next is h = record {
+pub skip_moves : (rules : Rules) (start : Kept) (run : RelayRun) (index count : ℕ) (why : Why) (links : LinksKept) (scanners : List Held) (queues : List WaitingState) {Watcher : Type 0} (told : Watcher → List Said → Type 0) (watcher : Watcher) (held : Held) → slice_get scanners index ≡ Some held → IsNextSpan held (Skipped why count) → IsRun rules start run → HoldsSoFar rules run (record { links = links; scanners = scanners; queues = queues }) → Moved rules start run (record { links = links; scanners = set scanners index (consumed count held); queues = queues }) told watcher watcher
+skip_moves rules start run index count why links scanners queues told watcher held there next is h = record {
   now = run;
   is_run = is;
   holds = record {
@@ -226,13 +227,12 @@ skip_moves rules start run index count why links scanners queues told held there
   frames = tt;
   more = [];
   course = sym (no_more run.course.told);
-  tells_it = told_none told;
+  tells_it = told_none;
 }
   where
     no_more : (xs : List Told) → xs ++ [] ≡ xs
     no_more [] = refl
     no_more (x ∷ xs) = ap (λ (l : List Told). x ∷ l) (no_more xs)
 
-    told_none : (t : Option (List Told)) → t ≡ tells t []
-    told_none None = refl
-    told_none (Some xs) = ap Some (sym (no_more xs))
+    told_none : Tells told watcher watcher []
+    told_none = λ all h. subst (told watcher) (sym (append-nil all)) h

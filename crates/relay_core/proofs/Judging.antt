@@ -26,7 +26,6 @@ use Rattle.relay_rules.specs.States.{LinkState, RelayState}
 use Rattle.relay_rules.specs.Steps.{Event, closes, forgets, hears, opens, refuses}
 use Rattle.relay_core.specs.Calls.{RunIs}
 use Rattle.relay_core.specs.Flows.{Flow, Goes, Told, nothing_yet, told_of}
-use Rattle.relay_core.specs.Moves.{tells}
 use Rattle.relay_core.specs.RelayRuns.{Holds, IsOpenAt, RelayKept, RelayRun, Tape}
 use Rattle.relay_core.specs.Scans.{consumed}
 use Rattle.relay_core.specs.Strangers.{Answers, AreRefused, EndsBy, HasJudged, IsTested, Judged, JudgesOn, if_frame, kept_with, refused_in}
@@ -34,7 +33,9 @@ use Rattle.relay_core.specs.Waitings.{WaitingState}
 use Rattle.relay_core.proofs.Halves.{none_in_row}
 use Rattle.relay_core.proofs.Numbers.{one_more}
 use Rattle.relay_core.proofs.TapeSteps.{all_fit}
-use Rattle.relay_core.proofs.Telling.{tells_more, tells_none}
+use Rattle.relay_core.proofs.Telling.{tells_then, tells_none}
+use Rattle.relay_core.specs.Said.{Said}
+use Rattle.relay_core.specs.Said.Said.{Framed}
 
 -- ---- the verifier keeps something else, and no link changes
 
@@ -110,8 +111,8 @@ kept_by (Some block) packet answer kept e = kept_after answer (stream_of packet 
 
 -- ---- what was judged so far goes on
 
-pub judged_skips : (rules : Rules) (start : Kept) (port : ℕ) (bytes : List ℕ) (run : RelayRun) (held : Held) (why : Why) (count : ℕ) (new : RelayKept) (told telling : Option (List Told)) → IsNextSpan held (Skipped why count) → Judged rules start port bytes run held new told telling → Judged rules start port bytes run (consumed count held) new told telling
-judged_skips rules start port bytes run held why count new told telling next j =
+pub judged_skips : (rules : Rules) (start : Kept) (port : ℕ) (bytes : List ℕ) (run : RelayRun) (held : Held) (why : Why) (count : ℕ) (new : RelayKept) {Watcher : Type 0} (told : Watcher → List Said → Type 0) (watcher telling : Watcher) → IsNextSpan held (Skipped why count) → Judged rules start port bytes run held new told watcher telling → Judged rules start port bytes run (consumed count held) new told watcher telling
+judged_skips rules start port bytes run held why count new told watcher telling next j =
     let more = map (skipped_for why) (take count held.bytes) in
     let fewer : length (drop count held.bytes) ≤ length held.bytes = omega (arith, length-drop count held.bytes) in
     record {
@@ -131,8 +132,8 @@ judged_skips rules start port bytes run held why count new told telling next j =
       tells_it = j.tells_it;
     }
 
-pub judged_refuses : (rules : Rules) (start : Kept) (port : ℕ) (bytes : List ℕ) (run : RelayRun) (held : Held) (size : ℕ) (old new : LinksKept) (scanners : List Held) (queues : List WaitingState) (first told telling : Option (List Told)) → 1 ≤ port → port ≤ rules.ports → IsNextSpan held (Frame size) → IsTested rules port (first_packet held) true old new told telling → Judged rules start port bytes run held (kept_with old scanners queues) first told → Judged rules start port bytes run (consumed size held) (kept_with new scanners queues) first telling
-judged_refuses rules start port bytes run held size old new scanners queues first told telling from to next t j =
+pub judged_refuses : (rules : Rules) (start : Kept) (port : ℕ) (bytes : List ℕ) (run : RelayRun) (held : Held) (size : ℕ) (old new : LinksKept) (scanners : List Held) (queues : List WaitingState) {Watcher : Type 0} (told : Watcher → List Said → Type 0) (first watcher telling : Watcher) → 1 ≤ port → port ≤ rules.ports → IsNextSpan held (Frame size) → IsTested rules port (first_packet held) true old new told watcher telling → Judged rules start port bytes run held (kept_with old scanners queues) told first watcher → Judged rules start port bytes run (consumed size held) (kept_with new scanners queues) told first telling
+judged_refuses rules start port bytes run held size old new scanners queues told first watcher telling from to next t j =
     let packet = first_packet held in
     let event = refuses port packet t.answer in
     let later = kept_run rules event new.kept j.now in
@@ -167,12 +168,12 @@ judged_refuses rules start port bytes run held size old new scanners queues firs
       frames = filter_map-append frame_in j.found (FrameFound packet ∷ []) ∙ (ap (λ (l : List Packet). l ++ packet ∷ []) j.frames ∙ sym (frames_more j.since (event ∷ [])));
       more = j.more ++ more;
       course = ap (λ (l : List Told). l ++ more) j.course ∙ append_assoc run.course.told j.more more;
-      tells_it = t.tells_it ∙ (ap (λ (x : Option (List Told)). tells x more) j.tells_it ∙ tells_more first j.more more);
+      tells_it = tells_then told first watcher telling j.more more j.tells_it t.tells_it;
     }
 
 -- the first frame that would be admitted: the verifier has made room
-pub judged_forgets : (rules : Rules) (start : Kept) (port : ℕ) (bytes : List ℕ) (run : RelayRun) (held : Held) (packet : Packet) (old new : LinksKept) (scanners : List Held) (queues : List WaitingState) (first told telling : Option (List Told)) → IsTested rules port packet false old new told telling → Judged rules start port bytes run held (kept_with old scanners queues) first told → Judged rules start port bytes run held (kept_with new scanners queues) first telling
-judged_forgets rules start port bytes run held packet old new scanners queues first told telling t j =
+pub judged_forgets : (rules : Rules) (start : Kept) (port : ℕ) (bytes : List ℕ) (run : RelayRun) (held : Held) (packet : Packet) (old new : LinksKept) (scanners : List Held) (queues : List WaitingState) {Watcher : Type 0} (told : Watcher → List Said → Type 0) (first watcher telling : Watcher) → IsTested rules port packet false old new told watcher telling → Judged rules start port bytes run held (kept_with old scanners queues) told first watcher → Judged rules start port bytes run held (kept_with new scanners queues) told first telling
+judged_forgets rules start port bytes run held packet old new scanners queues told first watcher telling t j =
     let later = kept_run rules forgets new.kept j.now in
     let went : Goes rules forgets j.now.course later.course = record {
       step = record {
@@ -200,7 +201,7 @@ judged_forgets rules start port bytes run held packet old new scanners queues fi
       frames = j.frames ∙ sym (frames_more j.since (forgets ∷ []) ∙ append-nil (refused_in j.since));
       more = j.more;
       course = append-nil j.now.course.told ∙ j.course;
-      tells_it = t.tells_it ∙ j.tells_it;
+      tells_it = λ all h. subst (told telling) (append-nil (all ++ map Framed j.more)) (t.tells_it (all ++ map Framed j.more) (j.tells_it all h));
     }
 
 -- ---- where it begins and ends
@@ -212,8 +213,8 @@ all_held rules port bytes = record { extras = extras_of rules.known; reads_old =
 pub fed_is : (rules : Rules) (port count : ℕ) (bytes : List ℕ) (now : Held) → length bytes ≤ 65536 → Feeds 65824 (nothing_held (extras_of rules.known) (has_port rules.plain port)) bytes count now → all_held rules port bytes ≡ now
 fed_is rules port count bytes now short f = ap (all_held rules port) (sym (all_fit bytes count 0 short (omega arith) f.count)) ∙ sym f.held
 
-pub judged_first : (rules : Rules) (start : Kept) (port : ℕ) (bytes : List ℕ) (run : RelayRun) (view : RelayKept) (told : Option (List Told)) → RunIs rules start run view → Judged rules start port bytes run (all_held rules port bytes) view told told
-judged_first rules start port bytes run view told is = record {
+pub judged_first : (rules : Rules) (start : Kept) (port : ℕ) (bytes : List ℕ) (run : RelayRun) (view : RelayKept) {Watcher : Type 0} (told : Watcher → List Said → Type 0) (watcher : Watcher) → RunIs rules start run view → Judged rules start port bytes run (all_held rules port bytes) view told watcher watcher
+judged_first rules start port bytes run view told watcher is = record {
   found = [];
   parsed = record { same = refl; version = refl; incremental = λ live. refl; final = refl };
   fewer = omega arith;
@@ -227,7 +228,7 @@ judged_first rules start port bytes run view told is = record {
   frames = refl;
   more = [];
   course = sym (append-nil run.course.told);
-  tells_it = tells_none told;
+  tells_it = tells_none told watcher;
 }
 
 answer_of : (rules : Rules) (port : ℕ) (kept : Kept) (bytes : List ℕ) (held : Held) (span : NextSpan) → next_span held ≡ span → held.bytes ≡ drop (length bytes - length held.bytes) bytes → EndsBy rules port kept held span → Answers rules port kept bytes held (if_frame span (length bytes - length held.bytes))
@@ -235,15 +236,15 @@ answer_of rules port kept bytes held (Frame size) e rest ends = (rest, (size, e)
 answer_of rules port kept bytes held (Skipped why count) e rest ends = absurd ends
 answer_of rules port kept bytes held Need e rest ends = ends
 
-pub has_judged : (rules : Rules) (start : Kept) (port : ℕ) (bytes : List ℕ) (run : RelayRun) (held : Held) (new : RelayKept) (told telling : Option (List Told)) → Judged rules start port bytes run held new told telling → EndsBy rules port new.links.kept held (next_span held) → HasJudged rules start port bytes run new told telling (if_frame (next_span held) (length bytes - length held.bytes))
-has_judged rules start port bytes run held new told telling j ends = record {
+pub has_judged : (rules : Rules) (start : Kept) (port : ℕ) (bytes : List ℕ) (run : RelayRun) (held : Held) (new : RelayKept) {Watcher : Type 0} (told : Watcher → List Said → Type 0) (watcher telling : Watcher) → Judged rules start port bytes run held new told watcher telling → EndsBy rules port new.links.kept held (next_span held) → HasJudged rules start port bytes run new told watcher telling (if_frame (next_span held) (length bytes - length held.bytes))
+has_judged rules start port bytes run held new told watcher telling j ends = record {
   held = held;
   judged = j;
   answer = answer_of rules port new.links.kept bytes held (next_span held) refl j.rest ends;
 }
 
 -- all was judged from the first byte on
-pub judged_all : (rules : Rules) (start : Kept) (port count : ℕ) (bytes : List ℕ) (run : RelayRun) (old new : LinksKept) (fed later : Held) (scanners : List Held) (queues : List WaitingState) (told telling : Option (List Told)) → length bytes ≤ 65536 → Feeds 65824 (nothing_held (extras_of rules.known) (has_port rules.plain port)) bytes count fed → JudgesOn rules port old new fed later told telling → RunIs rules start run (kept_with old scanners queues) → Judged rules start port bytes run later (kept_with new scanners queues) told telling
-judged_all rules start port count bytes run old new fed later scanners queues told telling short feeds on is =
-    on start bytes run scanners queues told
-    (subst (λ (h : Held). Judged rules start port bytes run h (kept_with old scanners queues) told told) (fed_is rules port count bytes fed short feeds) (judged_first rules start port bytes run (kept_with old scanners queues) told is))
+pub judged_all : (rules : Rules) (start : Kept) (port count : ℕ) (bytes : List ℕ) (run : RelayRun) (old new : LinksKept) (fed later : Held) (scanners : List Held) (queues : List WaitingState) {Watcher : Type 0} (told : Watcher → List Said → Type 0) (watcher telling : Watcher) → length bytes ≤ 65536 → Feeds 65824 (nothing_held (extras_of rules.known) (has_port rules.plain port)) bytes count fed → JudgesOn rules port old new fed later told watcher telling → RunIs rules start run (kept_with old scanners queues) → Judged rules start port bytes run later (kept_with new scanners queues) told watcher telling
+judged_all rules start port count bytes run old new fed later scanners queues told watcher telling short feeds on is =
+    on start bytes run scanners queues watcher
+    (subst (λ (h : Held). Judged rules start port bytes run h (kept_with old scanners queues) told watcher watcher) (fed_is rules port count bytes fed short feeds) (judged_first rules start port bytes run (kept_with old scanners queues) told watcher is))

@@ -9,6 +9,6 @@ mod Numbers
 mod Passing
 mod Places
 mod Results
-mod Stopping
+pub mod Stopping
 mod TapeSteps
 mod Telling

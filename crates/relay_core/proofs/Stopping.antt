@@ -17,14 +17,15 @@ use Rattle.relay_rules.specs.Kept.{LinksKept, Represents}
 use Rattle.relay_rules.specs.States.{LinkState, RelayState}
 use Rattle.relay_rules.specs.Steps.{Event}
 use Rattle.relay_core.specs.Flows.{Flow, Told}
-use Rattle.relay_core.specs.Moves.{IsTried, Moved, Moves, Stopped, Stops, tells}
+use Rattle.relay_core.specs.Moves.{IsTried, Moved, Moves, Stopped, Stops}
 use Rattle.relay_core.specs.RelayRuns.{Hearing, HoldsInPart, HoldsSoFar, IsOpenAt, RelayKept, RelayRun, Tape, WasHeard, WasHeardInPart}
 use Rattle.relay_core.specs.Scans.{consumed}
 use Rattle.relay_core.specs.Waitings.{WaitingState, WaitsAt, nothing_waits, waits}
 use Rattle.relay_core.proofs.FrameSteps.{as_many, frame_moves}
 use Rattle.relay_core.proofs.Halves.{was_sent}
 use Rattle.relay_core.proofs.Places.{is_same_or, nothing_there, same_some}
-use Rattle.relay_core.proofs.Telling.{heard_more, tells_more, tells_none}
+use Rattle.relay_core.proofs.Telling.{heard_more, tells_then, tells_none}
+use Rattle.relay_core.specs.Said.{Said}
 
 -- ---- each link is open, or has closed
 
@@ -92,8 +93,8 @@ in_part rules run view as_scanners as_queues h =
 
 -- ---- it stops before a frame
 
-pub stops_before : (rules : Rules) (view : RelayKept) (told telling : Option (List Told)) → length view.scanners ≡ length view.links.links → length view.queues ≡ length view.links.links → telling ≡ told → Stops rules view told telling
-stops_before rules view told telling as_scanners as_queues same start run is h = record {
+pub stops_before : (rules : Rules) (view : RelayKept) {Watcher : Type 0} (told : Watcher → List Said → Type 0) (watcher telling : Watcher) → length view.scanners ≡ length view.links.links → length view.queues ≡ length view.links.links → ((all : List Said) → told watcher all → told telling all) → Stops rules view told watcher telling
+stops_before rules view told watcher telling as_scanners as_queues same start run is h = record {
   now = run;
   is_run = is;
   holds = in_part rules run view as_scanners as_queues h;
@@ -103,11 +104,11 @@ stops_before rules view told telling as_scanners as_queues same start run is h =
   frames = tt;
   more = [];
   course = sym (append-nil run.course.told);
-  tells_it = same ∙ tells_none told;
+  tells_it = λ all h. tells_none told telling all (same all h);
 }
 
-pub stops_after : (rules : Rules) (start : Kept) (run : RelayRun) (view : RelayKept) (told telling : Option (List Told)) → length view.scanners ≡ length view.links.links → length view.queues ≡ length view.links.links → Moved rules start run view told telling → Stopped rules start run told telling
-stops_after rules start run view told telling as_scanners as_queues m = record {
+pub stops_after : (rules : Rules) (start : Kept) (run : RelayRun) (view : RelayKept) {Watcher : Type 0} (told : Watcher → List Said → Type 0) (watcher telling : Watcher) → length view.scanners ≡ length view.links.links → length view.queues ≡ length view.links.links → Moved rules start run view told watcher telling → Stopped rules start run told watcher telling
+stops_after rules start run view told watcher telling as_scanners as_queues m = record {
   now = m.now;
   is_run = m.is_run;
   holds = in_part rules m.now view as_scanners as_queues m.holds;
@@ -120,8 +121,8 @@ stops_after rules start run view told telling as_scanners as_queues m = record {
   tells_it = m.tells_it;
 }
 
-pub stops_on : (rules : Rules) (a b : RelayKept) (s t u : Option (List Told)) → Moves rules a b s t → Stops rules b t u → Stops rules a s u
-stops_on rules a b s t u first second start run is h =
+pub stops_on : (rules : Rules) (a b : RelayKept) {Watcher : Type 0} (told : Watcher → List Said → Type 0) (s t u : Watcher) → Moves rules a b told s t → Stops rules b told t u → Stops rules a told s u
+stops_on rules a b told s t u first second start run is h =
     let m = first start run is h in
     let n = second start m.now m.is_run m.holds in
     record {
@@ -134,7 +135,7 @@ stops_on rules a b s t u first second start run is h =
       frames = heard_more m.since n.since m.frames n.frames;
       more = m.more ++ n.more;
       course = n.course ∙ (ap (λ (l : List Told). l ++ n.more) m.course ∙ append_assoc run.course.told m.more n.more);
-      tells_it = n.tells_it ∙ (ap (λ (o : Option (List Told)). tells o n.more) m.tells_it ∙ tells_more s m.more n.more);
+      tells_it = tells_then told s t u m.more n.more m.tells_it n.tells_it;
     }
 
 -- ---- it stops before a frame waits at all the links to which it goes
@@ -169,13 +170,13 @@ pushed_all goes bytes queues = record {
   each = λ k w within there. (let same : 0 + k ≡ k = omega arith in pushed_there goes bytes 0 k queues w there ∙ ap (λ (n : ℕ). Some (if goes n then waits bytes w else w)) same);
 }
 
-pub stops_waiting : (rules : Rules) (index size bits : ℕ) (links later : LinksKept) (scanners : List Held) (queues : List WaitingState) (told telling : Option (List Told)) (held : Held) → index < length links.links → length scanners ≡ length links.links → length queues ≡ length links.links → later.links ≡ links.links → slice_get scanners index ≡ Some held → IsNextSpan held (Frame size) → ((state : RelayState) → Represents links state → IsTried rules index bits (first_packet held) state later told telling) → Stops rules (record { links = links; scanners = scanners; queues = queues }) told telling
-stops_waiting rules index size bits links later scanners queues told telling held within as_scanners as_queues same there next tried start run is h =
+pub stops_waiting : (rules : Rules) (index size bits : ℕ) (links later : LinksKept) (scanners : List Held) (queues : List WaitingState) {Watcher : Type 0} (told : Watcher → List Said → Type 0) (watcher telling : Watcher) (held : Held) → index < length links.links → length scanners ≡ length links.links → length queues ≡ length links.links → later.links ≡ links.links → slice_get scanners index ≡ Some held → IsNextSpan held (Frame size) → ((state : RelayState) → Represents links state → IsTried rules index bits (first_packet held) state later told watcher telling) → Stops rules (record { links = links; scanners = scanners; queues = queues }) told watcher telling
+stops_waiting rules index size bits links later scanners queues told watcher telling held within as_scanners as_queues same there next tried start run is h =
     let bytes = encoding (first_packet held) in
     let waiting = pushed_at (has_link bits) bytes 0 queues in
     let now : RelayKept = record { links = later; scanners = set scanners index (consumed size held); queues = waiting } in
     let count = ap length same in
     let long = length-set scanners index (consumed size held) in
     let all = pushed_length (has_link bits) bytes 0 queues in
-    stops_after rules start run now told telling (omega (arith, long, count, as_scanners)) (omega (arith, all, count, as_queues))
-    (frame_moves rules start run index size bits links later scanners queues waiting told telling held within there next tried (pushed_all (has_link bits) bytes queues) is h)
+    stops_after rules start run now told watcher telling (omega (arith, long, count, as_scanners)) (omega (arith, all, count, as_queues))
+    (frame_moves rules start run index size bits links later scanners queues waiting told watcher telling held within there next tried (pushed_all (has_link bits) bytes queues) is h)

@@ -18,6 +18,7 @@ use Rattle.relay_core.proofs.FrameSteps.{as_many, there_is}
 use Rattle.relay_core.proofs.Halves.{hearing_fed, hearing_took, sending_gave, sending_wrote}
 use Rattle.relay_core.proofs.Numbers.{Rising, one_place, run_rises}
 use Rattle.relay_core.proofs.Places.{is_same_or, same_some, set_elsewhere, set_there}
+use Rattle.relay_core.specs.Said.{Said}
 
 -- the tape of the link itself, which has changed
 own_tape : (run : RelayRun) (index : ℕ) (own link : LinkState) (flow : Flow) (tape new : Tape) → slice_get run.course.state.links index ≡ Some own → link_at run.course.state.links index ≡ own → own.number - 1 < length run.tapes → IsOpenAt (with_tape (tape_place run index) new run) index link flow tape → (new ≡ tape) × IsOpenAt run index link flow (tape_at run index)
@@ -165,8 +166,8 @@ is_live rules start run index view held within is h at =
     (h.hearing index own flow tape held opened_at at).live
 
 -- a link gave bytes, and all that they end was heard
-pub hears_run : (rules : Rules) (start : Kept) (run : RelayRun) (index count : ℕ) (bytes : List ℕ) (old new : RelayKept) (fed : List Held) (told telling : Option (List Told)) → index < length old.links.links → new.links.links ≡ old.links.links → length old.scanners ≡ length old.links.links → length bytes ≤ 65536 → ((held : Held) → slice_get old.scanners index ≡ Some held → FeedsAt index held bytes count old.scanners fed) → Moves rules (record { links = old.links; scanners = fed; queues = old.queues }) new told telling → OthersKept index fed new.scanners → ((held_at new.scanners index).ended ≡ false → IsResting (held_at new.scanners index)) → IsRun rules start run → Holds rules run old → HasHeard rules start index bytes run new told telling
-hears_run rules start run index count bytes old new fed told telling within same_links as_scanners short feeds moves others rests is holds =
+pub hears_run : (rules : Rules) (start : Kept) (run : RelayRun) (index count : ℕ) (bytes : List ℕ) (old new : RelayKept) (fed : List Held) {Watcher : Type 0} (told : Watcher → List Said → Type 0) (watcher telling : Watcher) → index < length old.links.links → new.links.links ≡ old.links.links → length old.scanners ≡ length old.links.links → length bytes ≤ 65536 → ((held : Held) → slice_get old.scanners index ≡ Some held → FeedsAt index held bytes count old.scanners fed) → Moves rules (record { links = old.links; scanners = fed; queues = old.queues }) new told watcher telling → OthersKept index fed new.scanners → ((held_at new.scanners index).ended ≡ false → IsResting (held_at new.scanners index)) → IsRun rules start run → Holds rules run old → HasHeard rules start index bytes run new told watcher telling
+hears_run rules start run index count bytes old new fed told watcher telling within same_links as_scanners short feeds moves others rests is holds =
     let held = held_at old.scanners index in
     let there = slice_get-get_or old.scanners index (nothing_held [] false) (omega (arith, within, as_scanners)) in
     let f = feeds held there in
@@ -201,8 +202,8 @@ hears_run rules start run index count bytes old new fed told telling within same
     }
 
 -- a link gave bytes, and there was no memory before all that they end was heard
-pub hears_in_part : (rules : Rules) (start : Kept) (run : RelayRun) (index count : ℕ) (bytes : List ℕ) (old : RelayKept) (fed : List Held) (told telling : Option (List Told)) → index < length old.links.links → length old.scanners ≡ length old.links.links → length bytes ≤ 65536 → ((held : Held) → slice_get old.scanners index ≡ Some held → FeedsAt index held bytes count old.scanners fed) → Stops rules (record { links = old.links; scanners = fed; queues = old.queues }) told telling → IsRun rules start run → Holds rules run old → Stopped rules start (gave_run index bytes run) told telling
-hears_in_part rules start run index count bytes old fed told telling within as_scanners short feeds stops is holds =
+pub hears_in_part : (rules : Rules) (start : Kept) (run : RelayRun) (index count : ℕ) (bytes : List ℕ) (old : RelayKept) (fed : List Held) {Watcher : Type 0} (told : Watcher → List Said → Type 0) (watcher telling : Watcher) → index < length old.links.links → length old.scanners ≡ length old.links.links → length bytes ≤ 65536 → ((held : Held) → slice_get old.scanners index ≡ Some held → FeedsAt index held bytes count old.scanners fed) → Stops rules (record { links = old.links; scanners = fed; queues = old.queues }) told watcher telling → IsRun rules start run → Holds rules run old → Stopped rules start (gave_run index bytes run) told watcher telling
+hears_in_part rules start run index count bytes old fed told watcher telling within as_scanners short feeds stops is holds =
     let held = held_at old.scanners index in
     let there = slice_get-get_or old.scanners index (nothing_held [] false) (omega (arith, within, as_scanners)) in
     let f = feeds held there in

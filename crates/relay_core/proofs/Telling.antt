@@ -1,6 +1,6 @@
 -- What is told, one frame after another.
-use Rattle.std.proofs.Common.{◌≡◌, ◌∙◌, ◌<◌, ◌≤◌, ℕ, zero, suc, ◌+◌, Bool, true, false, if◌then◌else◌, List, [], ◌∷◌, ◌++◌, length, map, filter, get_or, set, take, drop, slice_get, Option, Some, None, refl, sym, ap, arith, append_assoc}
-use Rattle.std.proofs.lemmas.List.{append-nil}
+use Rattle.std.proofs.Common.{◌≡◌, ◌∙◌, ◌<◌, ◌≤◌, ℕ, zero, suc, ◌+◌, Bool, true, false, if◌then◌else◌, List, [], ◌∷◌, ◌++◌, length, map, filter, get_or, set, take, drop, slice_get, Option, Some, None, refl, sym, ap, subst, arith, append_assoc}
+use Rattle.std.proofs.lemmas.List.{append-nil, map-append}
 use Rattle.std.proofs.lemmas.Option.{slice_get-get_or}
 use Rattle.mav_router.specs.Journal.{Rules}
 use Rattle.relay_rules.specs.Kept.{head_of}
@@ -8,24 +8,27 @@ use Rattle.relay_rules.specs.States.{LinkState, link_at}
 use Rattle.relay_rules.specs.Steps.{Event, closes, forgets, hears, opens, refuses}
 use Rattle.relay_rules.specs.declared.links.OpenLink.{OpenLink}
 use Rattle.relay_core.specs.Flows.{Told}
-use Rattle.relay_core.specs.Moves.{AreHeard, Moves, numbers_of, tells}
+use Rattle.relay_core.specs.Moves.{AreHeard, Moves, numbers_of}
 use Rattle.relay_core.specs.RelayRuns.{RelayKept}
 use Rattle.relay_core.proofs.Places.{nothing_there, same_some}
+use Rattle.relay_core.specs.Said.{Said, Tells}
+use Rattle.relay_core.specs.Said.Said.{Framed}
 
-pub tells_more : (told : Option (List Told)) (a b : List Told) → tells (tells told a) b ≡ tells told (a ++ b)
-tells_more None a b = refl
-tells_more (Some told) a b = ap Some (append_assoc told a b)
+pub tells_then : {Watcher : Type 0} (told : Watcher → List Said → Type 0) (s t u : Watcher) (a b : List Told) → Tells told s t a → Tells told t u b → Tells told s u (a ++ b)
+tells_then told s t u a b first second = λ all h.
+    let A = map Framed a in
+    let B = map Framed b in
+    subst (told u) (append_assoc all A B ∙ ap (λ (l : List Said). all ++ l) (sym (map-append Framed a b))) (second (all ++ A) (first all h))
 
 no_more : (xs : List Told) → xs ≡ xs ++ []
 no_more [] = refl
 no_more (x ∷ xs) = ap (λ (l : List Told). x ∷ l) (no_more xs)
 
-pub tells_none : (told : Option (List Told)) → told ≡ tells told []
-tells_none None = refl
-tells_none (Some told) = ap Some (no_more told)
+pub tells_none : {Watcher : Type 0} (told : Watcher → List Said → Type 0) (watcher : Watcher) → Tells told watcher watcher []
+tells_none told watcher = λ all h. subst (told watcher) (sym (append-nil all)) h
 
-pub moves_none : (rules : Rules) (view : RelayKept) (told : Option (List Told)) → Moves rules view view told told
-moves_none rules view told start run is h = record {
+pub moves_none : (rules : Rules) (view : RelayKept) {Watcher : Type 0} (told : Watcher → List Said → Type 0) (watcher : Watcher) → Moves rules view view told watcher watcher
+moves_none rules view told watcher start run is h = record {
   now = run;
   is_run = is;
   holds = h;
@@ -35,7 +38,7 @@ moves_none rules view told start run is h = record {
   frames = tt;
   more = [];
   course = no_more run.course.told;
-  tells_it = tells_none told;
+  tells_it = tells_none told watcher;
 }
 
 pub heard_more : (a b : List Event) → AreHeard a → AreHeard b → AreHeard (a ++ b)
@@ -46,8 +49,8 @@ heard_more (closes number ∷ a) b f g = f
 heard_more (refuses port packet answer ∷ a) b f g = f
 heard_more (forgets ∷ a) b f g = f
 
-pub moves_on : (rules : Rules) (a b c : RelayKept) (s t u : Option (List Told)) → Moves rules a b s t → Moves rules b c t u → Moves rules a c s u
-moves_on rules a b c s t u first second start run is h =
+pub moves_on : (rules : Rules) (a b c : RelayKept) {Watcher : Type 0} (told : Watcher → List Said → Type 0) (s t u : Watcher) → Moves rules a b told s t → Moves rules b c told t u → Moves rules a c told s u
+moves_on rules a b c told s t u first second start run is h =
     let m = first start run is h in
     let n = second start m.now m.is_run m.holds in
     record {
@@ -60,7 +63,7 @@ moves_on rules a b c s t u first second start run is h =
       frames = heard_more m.since n.since m.frames n.frames;
       more = m.more ++ n.more;
       course = n.course ∙ (ap (λ (l : List Told). l ++ n.more) m.course ∙ append_assoc run.course.told m.more n.more);
-      tells_it = n.tells_it ∙ (ap (λ (o : Option (List Told)). tells o n.more) m.tells_it ∙ tells_more s m.more n.more);
+      tells_it = tells_then told s t u m.more n.more m.tells_it n.tells_it;
     }
 
 -- the numbers of the links at the indexes at which a test holds are those of the links that pass it

@@ -1,5 +1,5 @@
 -- What each call of a relay does, in any run.
-use Rattle.std.specs.Prelude.{ℕ, ◌≡◌, ◌++◌, List, [], take, slice_get, Option, Some}
+use Rattle.std.specs.Prelude.{ℕ, ◌≡◌, ◌++◌, List, [], length, take, slice_get, Option, Some}
 use Rattle.mav_sign.specs.Kept.{Kept, Represents as OfHistory}
 use Rattle.relay_queue.specs.Queues.{next_bytes}
 use Rattle.mav_router.specs.Journal.{Rules}
@@ -7,8 +7,9 @@ use Rattle.relay_rules.specs.States.{LinkState}
 use Rattle.relay_rules.specs.Steps.{Event}
 use Rattle.relay_core.specs.Flows.{Flow, Told, nothing_yet}
 use Rattle.relay_core.specs.RelayRuns.{Holds, IsOpenAt, IsRun, RelayKept, RelayRun, Tape, WasSent}
-use Rattle.relay_core.specs.Moves.{AreHeard, Stopped, closed_run, gave_run, opened_run, tells, took_run}
+use Rattle.relay_core.specs.Moves.{AreHeard, Stopped, closed_run, gave_run, opened_run, took_run}
 use Rattle.relay_core.specs.Waitings.{WaitingState, counted}
+use Rattle.relay_core.specs.Said.{Said, Tells}
 
 -- before any event
 abbrev pub no_run : Kept → RelayRun
@@ -19,6 +20,10 @@ pub record IsNew (view : RelayKept) : Type 0 where
   pub kept : OfHistory view.links.kept []
   pub is_run : (rules : Rules) → IsRun rules view.links.kept (no_run view.links.kept)
   pub holds : (rules : Rules) → Holds rules (no_run view.links.kept) view
+
+-- each open link has its stream, and what waits for it
+abbrev pub IsWhole : RelayKept → Type 0
+IsWhole view = (length view.scanners ≡ length view.links.links) × (length view.queues ≡ length view.links.links)
 
 -- this run is one by the rules, and it holds of the relay
 pub record RunIs (rules : Rules) (start : Kept) (run : RelayRun) (view : RelayKept) : Type 0 where
@@ -43,8 +48,8 @@ Closes index dropped old new =
     → HasClosedWith rules start index dropped run new
 
 -- these bytes are on the link's tape, and more frames have come in, of which the watcher was told
-pub record HasHeard (rules : Rules) (start : Kept) (index : ℕ) (bytes : List ℕ) (run : RelayRun) (new : RelayKept)
-    (told telling : Option (List Told)) : Type 0 where
+pub record HasHeard {Watcher : Type 0} (rules : Rules) (start : Kept) (index : ℕ) (bytes : List ℕ) (run : RelayRun) (new : RelayKept)
+    (told : Watcher → List Said → Type 0) (watcher telling : Watcher) : Type 0 where
   pub now : RelayRun
   pub goes_on : RunIs rules start now new
   pub tapes : now.tapes ≡ (gave_run index bytes run).tapes
@@ -53,18 +58,18 @@ pub record HasHeard (rules : Rules) (start : Kept) (index : ℕ) (bytes : List �
   pub frames : AreHeard since
   pub more : List Told
   pub course : now.course.told ≡ run.course.told ++ more
-  pub tells_it : telling ≡ tells told more
+  pub tells_it : Tells told watcher telling more
 
-abbrev pub Hears : Rules → ℕ → List ℕ → RelayKept → RelayKept → Option (List Told) → Option (List Told) → Type 0
-Hears rules index bytes old new told telling =
+abbrev pub Hears : {Watcher : Type 0} → Rules → ℕ → List ℕ → RelayKept → RelayKept → (Watcher → List Said → Type 0) → (watcher telling : Watcher) → Type 0
+Hears rules index bytes old new told watcher telling =
     (start : Kept) (run : RelayRun) → IsRun rules start run → Holds rules run old
-    → HasHeard rules start index bytes run new told telling
+    → HasHeard rules start index bytes run new told watcher telling
 
 -- there was no memory for it all: what holds in part, and what was told so far
-abbrev pub HearsInPart : Rules → ℕ → List ℕ → RelayKept → Option (List Told) → Option (List Told) → Type 0
-HearsInPart rules index bytes old told telling =
+abbrev pub HearsInPart : {Watcher : Type 0} → Rules → ℕ → List ℕ → RelayKept → (Watcher → List Said → Type 0) → (watcher telling : Watcher) → Type 0
+HearsInPart rules index bytes old told watcher telling =
     (start : Kept) (run : RelayRun) → IsRun rules start run → Holds rules run old
-    → Stopped rules start (gave_run index bytes run) told telling
+    → Stopped rules start (gave_run index bytes run) told watcher telling
 
 -- so many of the bytes that are next are on its tape
 abbrev pub Takes : ℕ → ℕ → RelayKept → RelayKept → Type 0

@@ -3,6 +3,7 @@ pub mod Flows
 pub mod Laws
 pub mod Moves
 pub mod RelayRuns
+pub mod Said
 pub mod Scans
 pub mod Strangers
 pub mod Waitings

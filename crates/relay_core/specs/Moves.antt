@@ -13,10 +13,7 @@ use Rattle.relay_rules.specs.Steps.{Event, Hears, closes, forgets, hears, opens,
 use Rattle.relay_rules.specs.declared.links.OpenLink.{OpenLink}
 use Rattle.relay_core.specs.Flows.{Told, no_flow, one_told, passes}
 use Rattle.relay_core.specs.RelayRuns.{HoldsInPart, HoldsSoFar, IsRun, RelayKept, RelayRun, Tape}
-
--- more is told
-abbrev pub tells : Option (List Told) → List Told → Option (List Told)
-tells known more = option_map (λ (told : List Told). told ++ more) known
+use Rattle.relay_core.specs.Said.{Said, Tells}
 
 -- the numbers of the links at some indexes, of these from an index on
 abbrev pub numbers_of : (ℕ → Bool) → ℕ → List OpenLink → List ℕ
@@ -26,15 +23,15 @@ numbers_of goes k (link ∷ links) =
 
 -- what a frame does that came in at the open link with that index, before it waits anywhere; a bit for each link to
 -- which it goes
-pub record IsTried (rules : Rules) (index bits : ℕ) (packet : Packet) (before : RelayState) (links : LinksKept)
-    (told telling : Option (List Told)) : Type 0 where
+pub record IsTried {Watcher : Type 0} (rules : Rules) (index bits : ℕ) (packet : Packet) (before : RelayState) (links : LinksKept)
+    (told : Watcher → List Said → Type 0) (watcher telling : Watcher) : Type 0 where
   pub answer : Admit
   pub after : RelayState
   pub step : Hears rules (link_at before.links index).number packet answer before after
   pub links_are : Represents links after
   pub ways : (k : ℕ) → k < length before.links
       → has_link bits k ≡ passes rules packet answer (link_at before.links index) (link_at before.links k)
-  pub tells_it : telling ≡ tells told (one_told (link_at before.links index).number packet answer
+  pub tells_it : Tells told watcher telling (one_told (link_at before.links index).number packet answer
       (map (λ (link : LinkState). link.number)
       (filter (passes rules packet answer (link_at before.links index)) before.links)))
 
@@ -48,8 +45,8 @@ AreHeard (refuses port packet answer ∷ events) = ⊥
 AreHeard (forgets ∷ events) = ⊥
 
 -- a run goes on with frames, without a byte more, and holds of what a relay keeps now
-pub record Moved (rules : Rules) (start : Kept) (run : RelayRun) (new : RelayKept)
-    (told telling : Option (List Told)) : Type 0 where
+pub record Moved {Watcher : Type 0} (rules : Rules) (start : Kept) (run : RelayRun) (new : RelayKept)
+    (told : Watcher → List Said → Type 0) (watcher telling : Watcher) : Type 0 where
   pub now : RelayRun
   pub is_run : IsRun rules start now
   pub holds : HoldsSoFar rules now new
@@ -59,15 +56,15 @@ pub record Moved (rules : Rules) (start : Kept) (run : RelayRun) (new : RelayKep
   pub frames : AreHeard since
   pub more : List Told
   pub course : now.course.told ≡ run.course.told ++ more
-  pub tells_it : telling ≡ tells told more
+  pub tells_it : Tells told watcher telling more
 
-abbrev pub Moves : Rules → RelayKept → RelayKept → Option (List Told) → Option (List Told) → Type 0
-Moves rules old new told telling =
+abbrev pub Moves : {Watcher : Type 0} → Rules → RelayKept → RelayKept → (Watcher → List Said → Type 0) → (watcher telling : Watcher) → Type 0
+Moves rules old new told watcher telling =
     (start : Kept) (run : RelayRun) → IsRun rules start run → HoldsSoFar rules run old
-    → Moved rules start run new told telling
+    → Moved rules start run new told watcher telling
 
 -- a run goes on with frames until there is no memory
-pub record Stopped (rules : Rules) (start : Kept) (run : RelayRun) (told telling : Option (List Told)) : Type 0 where
+pub record Stopped {Watcher : Type 0} (rules : Rules) (start : Kept) (run : RelayRun) (told : Watcher → List Said → Type 0) (watcher telling : Watcher) : Type 0 where
   pub now : RelayRun
   pub is_run : IsRun rules start now
   pub holds : HoldsInPart rules now
@@ -77,12 +74,12 @@ pub record Stopped (rules : Rules) (start : Kept) (run : RelayRun) (told telling
   pub frames : AreHeard since
   pub more : List Told
   pub course : now.course.told ≡ run.course.told ++ more
-  pub tells_it : telling ≡ tells told more
+  pub tells_it : Tells told watcher telling more
 
-abbrev pub Stops : Rules → RelayKept → Option (List Told) → Option (List Told) → Type 0
-Stops rules old told telling =
+abbrev pub Stops : {Watcher : Type 0} → Rules → RelayKept → (Watcher → List Said → Type 0) → (watcher telling : Watcher) → Type 0
+Stops rules old told watcher telling =
     (start : Kept) (run : RelayRun) → IsRun rules start run → HoldsSoFar rules run old
-    → Stopped rules start run told telling
+    → Stopped rules start run told watcher telling
 
 -- what the scanner with that index holds
 abbrev pub held_at : List Held → ℕ → Held

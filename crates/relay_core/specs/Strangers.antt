@@ -19,9 +19,9 @@ use Rattle.relay_rules.specs.Kept.{LinksKept}
 use Rattle.relay_rules.specs.Steps.{Event, closes, forgets, hears, opens, refuses}
 use Rattle.relay_core.specs.Calls.{RunIs}
 use Rattle.relay_core.specs.Flows.{Told, one_told}
-use Rattle.relay_core.specs.Moves.{tells}
 use Rattle.relay_core.specs.RelayRuns.{IsResting, RelayKept, RelayRun}
 use Rattle.relay_core.specs.Waitings.{WaitingState}
+use Rattle.relay_core.specs.Said.{Said, Tells}
 
 -- frames of somebody who has no link are refused at this port, and the verifier makes room
 abbrev pub AreRefused : ℕ → List Event → Type 0
@@ -42,19 +42,19 @@ refused_in (closes number ∷ events) = refused_in events
 refused_in (hears number packet answer ∷ events) = refused_in events
 
 -- a frame is judged: it is refused and told of, or would be admitted, which nobody is told yet
-pub record IsTested (rules : Rules) (port : ℕ) (packet : Packet) (refused : Bool) (old new : LinksKept)
-    (told telling : Option (List Told)) : Type 0 where
+pub record IsTested {Watcher : Type 0} (rules : Rules) (port : ℕ) (packet : Packet) (refused : Bool) (old new : LinksKept)
+    (told : Watcher → List Said → Type 0) (watcher telling : Watcher) : Type 0 where
   pub answer : Admit
   pub made : HasRoom old.kept new.kept
   pub verdict : answer ≡ verdict_by rules.key (has_port rules.plain port) new.kept packet
   pub refuses_it : is_admitted answer ≡ not refused
   pub same : (new.given ≡ old.given) × (new.links ≡ old.links) × (new.words ≡ old.words)
-  pub tells_it : telling ≡ (if refused then tells told (one_told 0 packet answer []) else told)
+  pub tells_it : Tells told watcher telling (if refused then one_told 0 packet answer [] else [])
 
 -- of a stranger's bytes a prefix was parsed and the rest is held; each frame in it was refused and told of, in
 -- order; no link has changed, nor the bytes of any
-pub record Judged (rules : Rules) (start : Kept) (port : ℕ) (bytes : List ℕ) (run : RelayRun) (held : Held)
-    (new : RelayKept) (told telling : Option (List Told)) : Type 0 where
+pub record Judged {Watcher : Type 0} (rules : Rules) (start : Kept) (port : ℕ) (bytes : List ℕ) (run : RelayRun) (held : Held)
+    (new : RelayKept) (told : Watcher → List Said → Type 0) (watcher telling : Watcher) : Type 0 where
   pub found : List FrameEvent
   pub parsed : PortProgress rules port bytes found held
   pub fewer : length held.bytes ≤ length bytes
@@ -68,19 +68,18 @@ pub record Judged (rules : Rules) (start : Kept) (port : ℕ) (bytes : List ℕ)
   pub frames : frames_of found ≡ refused_in since
   pub more : List Told
   pub course : now.course.told ≡ run.course.told ++ more
-  pub tells_it : telling ≡ tells told more
+  pub tells_it : Tells told watcher telling more
 
 abbrev pub kept_with : LinksKept → List Held → List WaitingState → RelayKept
 kept_with links scanners queues = record { links = links; scanners = scanners; queues = queues }
 
 -- what was judged so far goes on
-abbrev pub JudgesOn : Rules → ℕ → (old new : LinksKept) → (held later : Held) → (told telling : Option (List Told))
+abbrev pub JudgesOn : {Watcher : Type 0} → Rules → ℕ → (old new : LinksKept) → (held later : Held) → (Watcher → List Said → Type 0) → (watcher telling : Watcher)
     → Type 0
-JudgesOn rules port old new held later told telling =
+JudgesOn {Watcher} rules port old new held later told watcher telling =
     (start : Kept) (bytes : List ℕ) (run : RelayRun) (scanners : List Held) (queues : List WaitingState)
-    (first : Option (List Told)) → Judged rules start port bytes run held
-    (kept_with old scanners queues) first told
-    → Judged rules start port bytes run later (kept_with new scanners queues) first telling
+    (first : Watcher) → Judged rules start port bytes run held (kept_with old scanners queues) told first watcher
+    → Judged rules start port bytes run later (kept_with new scanners queues) told first telling
 
 -- a frame of a stranger at that port would be admitted
 abbrev pub IsAdmissible : Rules → ℕ → Kept → Packet → Type 0
@@ -105,25 +104,25 @@ Answers rules port kept bytes held (Some from) =
     × IsAdmissible rules port kept (first_packet held)
 Answers rules port kept bytes held None = IsResting held
 
-pub record HasJudged (rules : Rules) (start : Kept) (port : ℕ) (bytes : List ℕ) (run : RelayRun) (new : RelayKept)
-    (told telling : Option (List Told)) (from : Option ℕ) : Type 0 where
+pub record HasJudged {Watcher : Type 0} (rules : Rules) (start : Kept) (port : ℕ) (bytes : List ℕ) (run : RelayRun) (new : RelayKept)
+    (told : Watcher → List Said → Type 0) (watcher telling : Watcher) (from : Option ℕ) : Type 0 where
   pub held : Held
-  pub judged : Judged rules start port bytes run held new told telling
+  pub judged : Judged rules start port bytes run held new told watcher telling
   pub answer : Answers rules port new.links.kept bytes held from
 
-abbrev pub Judges : Rules → ℕ → List ℕ → RelayKept → RelayKept → (told telling : Option (List Told)) → Option ℕ
+abbrev pub Judges : {Watcher : Type 0} → Rules → ℕ → List ℕ → RelayKept → RelayKept → (Watcher → List Said → Type 0) → (watcher telling : Watcher) → Option ℕ
     → Type 0
-Judges rules port bytes old new told telling from =
+Judges rules port bytes old new told watcher telling from =
     (start : Kept) (run : RelayRun) → RunIs rules start run old
-    → HasJudged rules start port bytes run new told telling from
+    → HasJudged rules start port bytes run new told watcher telling from
 
 -- there was no memory for it all: what was judged so far
-pub record HasJudgedInPart (rules : Rules) (start : Kept) (port : ℕ) (bytes : List ℕ) (run : RelayRun)
-    (new : RelayKept) (told telling : Option (List Told)) : Type 0 where
+pub record HasJudgedInPart {Watcher : Type 0} (rules : Rules) (start : Kept) (port : ℕ) (bytes : List ℕ) (run : RelayRun)
+    (new : RelayKept) (told : Watcher → List Said → Type 0) (watcher telling : Watcher) : Type 0 where
   pub held : Held
-  pub judged : Judged rules start port bytes run held new told telling
+  pub judged : Judged rules start port bytes run held new told watcher telling
 
-abbrev pub JudgesInPart : Rules → ℕ → List ℕ → RelayKept → RelayKept → (told telling : Option (List Told)) → Type 0
-JudgesInPart rules port bytes old new told telling =
+abbrev pub JudgesInPart : {Watcher : Type 0} → Rules → ℕ → List ℕ → RelayKept → RelayKept → (Watcher → List Said → Type 0) → (watcher telling : Watcher) → Type 0
+JudgesInPart rules port bytes old new told watcher telling =
     (start : Kept) (run : RelayRun) → RunIs rules start run old
-    → HasJudgedInPart rules start port bytes run new told telling
+    → HasJudgedInPart rules start port bytes run new told watcher telling

@@ -1,11 +1,12 @@
 // What a frame does that comes in at a link.
-ghost use Rattle.std.specs.Prelude.{◌≡◌, ◌+◌, ◌<◌, ◌≤◌, length, take, slice_get, Some, IfOk, OnErr, ℕ};
+ghost use Rattle.std.specs.Prelude.{◌≡◌, ◌+◌, ◌<◌, ◌≤◌, length, take, slice_get, Some, IfOk, OnErr, List, ℕ};
 ghost use Rattle.link_table.specs.OpenLinks.{has_link};
 ghost use Rattle.relay_rules.specs.Kept.{Represents};
 ghost use Rattle.relay_rules.specs.States.{RelayState};
 ghost use Rattle.relay_rules.specs.declared.links.OpenLink.{OpenLink};
 ghost use Rattle.relay_core.specs.Flows.{one_told};
-ghost use Rattle.relay_core.specs.Moves.{IsTried, numbers_of, tells};
+ghost use Rattle.relay_core.specs.Moves.{IsTried, numbers_of};
+ghost use Rattle.relay_core.specs.Said.{Said, Tells};
 
 use crate::NoMemory;
 use crate::watcher::Watcher;
@@ -42,7 +43,7 @@ fn tell<W: Watcher>(
 )
     requires within { index < length links.now.links }
     ensures { (link : OpenLink) → slice_get links.now.links index ≡ Some link
-        → W.told watcher.new ≡ tells (W.told watcher.old)
+        → Tells W.told watcher.old watcher.new
         (one_told link.number frame.now heard.admit (numbers_of (has_link heard.ways.bits) 0 links.now.links)) }
 {
     let mut numbers = [0; LINK_LIMIT];
@@ -61,9 +62,9 @@ pub(crate) fn try_frame<W: Watcher>(
 ) -> Result<LinkSet, NoMemory>
     requires within { index < length links.old.links }
     ensures tries { IfOk result (λ ways. (state : RelayState) → Represents links.old state
-        → IsTried rules.now index ways.bits frame.now state links.new (W.told watcher.old) (W.told watcher.new)) }
+        → IsTried rules.now index ways.bits frame.now state links.new W.told watcher.old watcher.new) }
     ensures unchanged { OnErr result (links.new ≡ links.old) }
-    ensures untold { OnErr result (W.told watcher.new ≡ W.told watcher.old) }
+    ensures untold { OnErr result ((all : List Said) → W.told watcher.old all → W.told watcher.new all) }
     ensures links { links.new.links ≡ links.old.links }
     ensures given { links.new.given ≡ links.old.given }
 {

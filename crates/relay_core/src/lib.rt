@@ -9,6 +9,7 @@
 
 mod hearing;
 pub mod laws;
+mod notes;
 mod queues;
 mod relay;
 mod scanners;
@@ -17,6 +18,7 @@ mod streams;
 mod waiting;
 mod watcher;
 
+pub use notes::Note;
 pub use queues::Queues;
 pub use relay::Relay;
 use std::alloc::AllocError;

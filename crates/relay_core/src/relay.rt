@@ -1,9 +1,9 @@
 // The switch of a relay.
-ghost use Rattle.std.specs.Prelude.{◌≡◌, ◌+◌, ◌<◌, ◌≤◌, ◌^◌, ◌++◌, ◌∷◌, [], length, slice_get, Some, IfOk, OnOk};
+ghost use Rattle.std.specs.Prelude.{◌≡◌, ◌+◌, ◌<◌, ◌≤◌, ◌^◌, ◌++◌, ◌∷◌, [], length, slice_get, Some, IfOk, IfSome, OnOk};
 ghost use Rattle.std.specs.Prelude.{OnErr, IsTrue};
 ghost use Rattle.std.specs.List.{remove};
 ghost use Rattle.relay_queue.specs.Queues.{next_bytes};
-ghost use Rattle.relay_core.specs.Calls.{Closes, Hears, HearsInPart, IsNew, Opens, Takes};
+ghost use Rattle.relay_core.specs.Calls.{Closes, Hears, HearsInPart, IsNew, IsWhole, Opens, Takes};
 ghost use Rattle.relay_core.specs.Strangers.{Judges, JudgesInPart};
 ghost use Rattle.relay_core.specs.Waitings.{WaitingState, lost};
 
@@ -85,6 +85,7 @@ impl Relay {
         ensures few { IsTrue result → length self.now.links.links < 32 }
         ensures numbers { IsTrue result → self.now.links.given + 1 < 2 ^ 64 }
         ensures room { length self.now.links.links < 32 → self.now.links.given + 1 < 2 ^ 64 → IsTrue result }
+        ensures whole { IsWhole self.now }
     {
         self.links.has_room()
     }
@@ -132,10 +133,8 @@ impl Relay {
     ) -> Result<(), NoMemory>
         requires within { index < length self.old.links.links }
         requires short { length bytes.now ≤ 65536 }
-        ensures hears { OnOk result (Hears rules.now index bytes.now self.old self.new (W.told watcher.old)
-            (W.told watcher.new)) }
-        ensures stops { OnErr result (HearsInPart rules.now index bytes.now self.old (W.told watcher.old)
-            (W.told watcher.new)) }
+        ensures hears { OnOk result (Hears rules.now index bytes.now self.old self.new W.told watcher.old watcher.new) }
+        ensures stops { OnErr result (HearsInPart rules.now index bytes.now self.old W.told watcher.old watcher.new) }
         ensures links { self.new.links.links ≡ self.old.links.links }
         ensures given { self.new.links.given ≡ self.old.links.given }
     {
@@ -164,11 +163,11 @@ impl Relay {
         requires to { port ≤ rules.now.ports }
         requires ports { rules.now.ports ≤ 8 }
         requires short { length bytes.now ≤ 65536 }
-        ensures judges { IfOk result (Judges rules.now port bytes.now self.old self.new (W.told watcher.old)
-            (W.told watcher.new)) }
-        ensures stops { OnErr result (JudgesInPart rules.now port bytes.now self.old self.new (W.told watcher.old)
-            (W.told watcher.new)) }
+        ensures judges { IfOk result (Judges rules.now port bytes.now self.old self.new W.told watcher.old watcher.new) }
+        ensures stops { OnErr result (JudgesInPart rules.now port bytes.now self.old self.new W.told watcher.old watcher.new) }
         ensures links { self.new.links.links ≡ self.old.links.links }
+        ensures within { IfOk result (λ place. IfSome place (λ from. from ≤ length bytes.now)) }
+        ensures whole { IsWhole self.new }
         ensures others { (self.new.scanners ≡ self.old.scanners) × (self.new.queues ≡ self.old.queues) }
     {
         let mut scanner = self.scanners.make(rules, port)?;
@@ -180,7 +179,8 @@ impl Relay {
     /// The bytes to write next to the open link with that index.
     pub fn next_bytes(&self, index: usize) -> &[u8]
         requires { index < length self.now.links.links }
-        ensures { (waiting : WaitingState) → slice_get self.now.queues index ≡ Some waiting
+        ensures whole { IsWhole self.now }
+        ensures bytes { (waiting : WaitingState) → slice_get self.now.queues index ≡ Some waiting
             → result.now ≡ next_bytes waiting.queue }
     {
         self.queues.next_bytes(index)

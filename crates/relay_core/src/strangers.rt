@@ -1,7 +1,8 @@
 // What somebody sends who has no link yet.
-ghost use Rattle.std.specs.Prelude.{◌≡◌, ◌-◌, ◌<◌, ◌≤◌, length, OnOk, OnErr, IfOk, true, false};
+ghost use Rattle.std.specs.Prelude.{◌≡◌, ◌-◌, ◌<◌, ◌≤◌, length, OnOk, OnErr, IfOk, IfSome, List, true, false};
 ghost use Rattle.mav_stream.specs.Spans.{next_span};
 ghost use Rattle.relay_core.specs.Strangers.{EndsBy, IsTested, JudgesOn, if_frame};
+ghost use Rattle.relay_core.specs.Said.{Said};
 
 use crate::NoMemory;
 use crate::watcher::Watcher;
@@ -22,9 +23,9 @@ fn refuse<W: Watcher>(
     requires from { 1 ≤ port }
     requires to { port ≤ 8 }
     ensures tests { IfOk result (λ refused. IsTested rules.now port frame.now refused links.old links.new
-        (W.told watcher.old) (W.told watcher.new)) }
+        W.told watcher.old watcher.new) }
     ensures unchanged { OnErr result (links.new ≡ links.old) }
-    ensures untold { OnErr result (W.told watcher.new ≡ W.told watcher.old) }
+    ensures untold { OnErr result ((all : List Said) → W.told watcher.old all → W.told watcher.new all) }
     ensures links { links.new.links ≡ links.old.links }
 {
     let judgement = judge(rules, frame);
@@ -51,7 +52,7 @@ fn judge_next<W: Watcher>(
     requires to { port ≤ rules.now.ports }
     requires ports { rules.now.ports ≤ 8 }
     ensures judges { JudgesOn rules.now port links.old links.new scanner.old scanner.new
-        (W.told watcher.old) (W.told watcher.new) }
+        W.told watcher.old watcher.new }
     ensures links { links.new.links ≡ links.old.links }
     ensures live { scanner.new.ended ≡ scanner.old.ended }
     ensures least { length scanner.new.bytes ≤ length scanner.old.bytes }
@@ -89,7 +90,7 @@ pub(crate) fn judge_all<W: Watcher>(
     requires ports { rules.now.ports ≤ 8 }
     requires live { scanner.old.ended ≡ false }
     ensures judges { JudgesOn rules.now port links.old links.new scanner.old scanner.new
-        (W.told watcher.old) (W.told watcher.new) }
+        W.told watcher.old watcher.new }
     ensures links { links.new.links ≡ links.old.links }
     ensures fewer { length scanner.new.bytes ≤ length scanner.old.bytes }
     ensures ends { OnOk result (EndsBy rules.now port links.new.kept scanner.new (next_span scanner.new)) }
@@ -102,7 +103,8 @@ pub(crate) fn judge_all<W: Watcher>(
 /// end.
 pub(crate) fn frame_place(scanner: &Scanner, count: usize) -> Option<usize>
     requires { length scanner.now.bytes ≤ count }
-    ensures { result ≡ if_frame (next_span scanner.now) (count - length scanner.now.bytes) }
+    ensures place { result ≡ if_frame (next_span scanner.now) (count - length scanner.now.bytes) }
+    ensures within { IfSome result (λ from. from ≤ count) }
 {
     match scanner.next_span() {
         NextSpan::Frame(_) => Some(count - scanner.bytes().len()),

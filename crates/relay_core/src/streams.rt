@@ -28,10 +28,10 @@ fn hear_next<W: Watcher>(
     ensures moves { OnOk result (Moves rules.now
         (record { links = links.old; scanners = scanners.old; queues = queues.old })
         (record { links = links.new; scanners = scanners.new; queues = queues.new })
-        (W.told watcher.old) (W.told watcher.new)) }
+        W.told watcher.old watcher.new) }
     ensures stops { OnErr result (Stops rules.now
         (record { links = links.old; scanners = scanners.old; queues = queues.old })
-        (W.told watcher.old) (W.told watcher.new)) }
+        W.told watcher.old watcher.new) }
     ensures links { links.new.links ≡ links.old.links }
     ensures given { links.new.given ≡ links.old.given }
     ensures others { OthersKept index scanners.old scanners.new }
@@ -72,10 +72,10 @@ pub(crate) fn hear_all<W: Watcher>(
     ensures moves { OnOk result (Moves rules.now
         (record { links = links.old; scanners = scanners.old; queues = queues.old })
         (record { links = links.new; scanners = scanners.new; queues = queues.new })
-        (W.told watcher.old) (W.told watcher.new)) }
+        W.told watcher.old watcher.new) }
     ensures stops { OnErr result (Stops rules.now
         (record { links = links.old; scanners = scanners.old; queues = queues.old })
-        (W.told watcher.old) (W.told watcher.new)) }
+        W.told watcher.old watcher.new) }
     ensures links { links.new.links ≡ links.old.links }
     ensures given { links.new.given ≡ links.old.given }
     ensures others { OthersKept index scanners.old scanners.new }

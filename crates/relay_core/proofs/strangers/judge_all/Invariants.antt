@@ -4,7 +4,7 @@ use Rattle.relay_core.proofs.strangers.judge_all.Given as goal
 
 abbrev pub invariant-loop : goal.invariant-loop
 invariant-loop g l =
-    JudgesOn l.fn.rules l.fn.port l.fn.links l.links l.fn.scanner l.scanner (g.W.Watcher.told l.fn.watcher) (g.W.Watcher.told l.watcher)
+    JudgesOn l.fn.rules l.fn.port l.fn.links l.links l.fn.scanner l.scanner g.W.Watcher.told l.fn.watcher l.watcher
     × (l.links.links ≡ l.fn.links.links)
     × (l.scanner.ended ≡ false)
     × (length l.scanner.bytes ≤ length l.fn.scanner.bytes)

@@ -10,9 +10,10 @@ returns-in-Skipped-clause-judges g c = λ start bytes run scanners queues first 
     let rules = c.args.rules.now in
     let held = c.args.scanner.now in
     let new = kept_with c.args.links.now scanners queues in
-    let told = g.W.Watcher.told c.args.watcher.now in
-    subst (λ (h : Held). Judged rules start c.args.port bytes run h new first told) (sym c.consume.ensures)
-    (judged_skips rules start c.args.port bytes run held c.in-Skipped.field-0 c.in-Skipped.count new first told c.in-Skipped.ensures j)
+    let told = g.W.Watcher.told in
+    let watcher = c.args.watcher.now in
+    subst (λ (h : Held). Judged rules start c.args.port bytes run h new told first watcher) (sym c.consume.ensures)
+    (judged_skips rules start c.args.port bytes run held c.in-Skipped.field-0 c.in-Skipped.count new told first watcher c.in-Skipped.ensures j)
 
 pub returns-then-refused-clause-judges : goal.returns-then-refused-clause-judges
 returns-then-refused-clause-judges g c = λ start bytes run scanners queues first j.
@@ -21,12 +22,13 @@ returns-then-refused-clause-judges g c = λ start bytes run scanners queues firs
     let held = c.args.scanner.now in
     let links = c.args.links.now in
     let later = c.refuse.new.links in
-    let told = g.W.Watcher.told c.args.watcher.now in
-    let telling = g.W.Watcher.told c.refuse.new.watcher in
-    let tested = subst (λ (p : Packet). IsTested rules port p true links later told telling) c.raw_frame-frame.ensures
-    (subst (λ (b : Bool). IsTested rules port c.raw_frame-frame.result b links later told telling) c.if-refused.true c.in_ok-refused-in-Frame.ensures.tests) in
-    subst (λ (h : Held). Judged rules start port bytes run h (kept_with later scanners queues) first telling) (sym c.consume-then-refused.ensures)
-    (judged_refuses rules start port bytes run held c.in-Frame.size links later scanners queues first told telling c.requires.from c.requires.to c.in-Frame.ensures tested j)
+    let told = g.W.Watcher.told in
+    let watcher = c.args.watcher.now in
+    let telling = c.refuse.new.watcher in
+    let tested = subst (λ (p : Packet). IsTested rules port p true links later told watcher telling) c.raw_frame-frame.ensures
+    (subst (λ (b : Bool). IsTested rules port c.raw_frame-frame.result b links later told watcher telling) c.if-refused.true c.in_ok-refused-in-Frame.ensures.tests) in
+    subst (λ (h : Held). Judged rules start port bytes run h (kept_with later scanners queues) told first telling) (sym c.consume-then-refused.ensures)
+    (judged_refuses rules start port bytes run held c.in-Frame.size links later scanners queues told first watcher telling c.requires.from c.requires.to c.in-Frame.ensures tested j)
 
 pub returns-else-refused-clause-judges : goal.returns-else-refused-clause-judges
 returns-else-refused-clause-judges g c = λ start bytes run scanners queues first j.
@@ -34,7 +36,8 @@ returns-else-refused-clause-judges g c = λ start bytes run scanners queues firs
     let port = c.args.port in
     let links = c.args.links.now in
     let later = c.refuse.new.links in
-    let told = g.W.Watcher.told c.args.watcher.now in
-    let telling = g.W.Watcher.told c.refuse.new.watcher in
-    judged_forgets rules start port bytes run c.args.scanner.now c.raw_frame-frame.result links later scanners queues first told telling
-    (subst (λ (b : Bool). IsTested rules port c.raw_frame-frame.result b links later told telling) c.if-refused.false c.in_ok-refused-in-Frame.ensures.tests) j
+    let told = g.W.Watcher.told in
+    let watcher = c.args.watcher.now in
+    let telling = c.refuse.new.watcher in
+    judged_forgets rules start port bytes run c.args.scanner.now c.raw_frame-frame.result links later scanners queues told first watcher telling
+    (subst (λ (b : Bool). IsTested rules port c.raw_frame-frame.result b links later told watcher telling) c.if-refused.false c.in_ok-refused-in-Frame.ensures.tests) j

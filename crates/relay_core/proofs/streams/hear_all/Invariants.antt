@@ -7,7 +7,7 @@ invariant-loop g l =
     Moves l.fn.rules
     (record { links = l.fn.links; scanners = l.fn.scanners; queues = l.fn.queues })
     (record { links = l.links; scanners = l.scanners; queues = l.queues })
-    (g.W.Watcher.told l.fn.watcher) (g.W.Watcher.told l.watcher)
+    g.W.Watcher.told l.fn.watcher l.watcher
     × (l.links.links ≡ l.fn.links.links)
     × (l.links.given ≡ l.fn.links.given)
     × OthersKept l.fn.index l.fn.scanners l.scanners

@@ -1,0 +1,4 @@
+pub mod Closing
+pub mod Rounds
+pub mod Saying
+pub mod Taking
