@@ -1,5 +1,5 @@
 -- A frame that was tried, and was told.
-use Rattle.std.proofs.Common.{◌≡◌, ◌∙◌, ◌<◌, ℕ, zero, suc, ◌+◌, ◌&&◌, List, [], ◌∷◌, length, map, slice_get, Option, Some, refl, sym, ap, subst, arith}
+use Rattle.std.proofs.Common.{◌≡◌, ◌∙◌, ◌<◌, ℕ, zero, suc, ◌+◌, ◌&&◌, List, [], ◌∷◌, length, map, slice_get, Some, refl, sym, ap, subst, arith}
 use Rattle.mav_frame.specs.Packet.{Packet}
 use Rattle.mav_sign.specs.declared.admission.Admit.{Admit}
 use Rattle.mav_sign.specs.History.{is_admitted}
@@ -11,7 +11,7 @@ use Rattle.mav_router.specs.Journal.{Rules}
 use Rattle.relay_rules.specs.Kept.{LinksKept, Represents, head_of, names_of}
 use Rattle.relay_rules.specs.States.{LinkState, RelayState, goes_to, heard, link_at}
 use Rattle.relay_rules.specs.declared.links.OpenLink.{OpenLink}
-use Rattle.relay_core.specs.Flows.{Told, one_told, passes}
+use Rattle.relay_core.specs.Flows.{one_told, passes}
 use Rattle.relay_core.specs.Moves.{IsTried, numbers_of}
 use Rattle.relay_core.proofs.FrameSteps.{as_many, there_is}
 use Rattle.relay_core.proofs.Places.{nothing_there, same_some}

@@ -1,5 +1,5 @@
 -- What bytes that a link gives or takes leave of a run.
-use Rattle.std.proofs.Common.{◌≡◌, ◌∙◌, ◌<◌, ◌≤◌, inl, inr, ℕ, ◌-◌, List, [], ◌∷◌, length, get_or, set, take, min, false, slice_get, Option, Some, refl, sym, ap, subst, arith, length-set}
+use Rattle.std.proofs.Common.{◌≡◌, ◌∙◌, ◌<◌, ◌≤◌, inl, inr, ℕ, ◌-◌, List, [], ◌∷◌, length, get_or, set, take, min, false, slice_get, Some, refl, sym, ap, subst, arith, length-set}
 use Rattle.std.proofs.lemmas.Option.{get_or_from_slice_get, slice_get_within, slice_get-get_or}
 use Rattle.mav_sign.specs.Kept.{Kept}
 use Rattle.mav_stream.specs.Held.{Held, nothing_held}
@@ -9,7 +9,7 @@ use Rattle.relay_queue.specs.Queues.{next_bytes}
 use Rattle.relay_rules.specs.Kept.{LinksKept, Represents}
 use Rattle.relay_rules.specs.States.{LinkState, link_at}
 use Rattle.relay_core.specs.Calls.{HasHeard, RunIs}
-use Rattle.relay_core.specs.Flows.{Flow, Told, no_flow}
+use Rattle.relay_core.specs.Flows.{Flow, no_flow}
 use Rattle.relay_core.specs.Moves.{Moves, OthersKept, Stopped, Stops, gave, gave_run, held_at, no_tape, tape_at, tape_place, took, took_run, with_tape}
 use Rattle.relay_core.specs.RelayRuns.{HasClosed, Hearing, Holds, HoldsSoFar, IsOpenAt, IsResting, IsRun, RelayKept, RelayRun, Sending, Tape}
 use Rattle.relay_core.specs.Scans.{FeedsAt}

@@ -1,5 +1,5 @@
 -- What each call of a relay does, in any run.
-use Rattle.std.specs.Prelude.{ℕ, ◌≡◌, ◌++◌, List, [], length, take, slice_get, Option, Some}
+use Rattle.std.specs.Prelude.{ℕ, ◌≡◌, ◌++◌, List, [], length, take, slice_get, Some}
 use Rattle.mav_sign.specs.Kept.{Kept, Represents as OfHistory}
 use Rattle.relay_queue.specs.Queues.{next_bytes}
 use Rattle.mav_router.specs.Journal.{Rules}
@@ -48,8 +48,8 @@ Closes index dropped old new =
     → HasClosedWith rules start index dropped run new
 
 -- these bytes are on the link's tape, and more frames have come in, of which the watcher was told
-pub record HasHeard {Watcher : Type 0} (rules : Rules) (start : Kept) (index : ℕ) (bytes : List ℕ) (run : RelayRun) (new : RelayKept)
-    (told : Watcher → List Said → Type 0) (watcher telling : Watcher) : Type 0 where
+pub record HasHeard {Watcher : Type 0} (rules : Rules) (start : Kept) (index : ℕ) (bytes : List ℕ) (run : RelayRun)
+    (new : RelayKept) (told : Watcher → List Said → Type 0) (watcher telling : Watcher) : Type 0 where
   pub now : RelayRun
   pub goes_on : RunIs rules start now new
   pub tapes : now.tapes ≡ (gave_run index bytes run).tapes
@@ -60,13 +60,15 @@ pub record HasHeard {Watcher : Type 0} (rules : Rules) (start : Kept) (index : �
   pub course : now.course.told ≡ run.course.told ++ more
   pub tells_it : Tells told watcher telling more
 
-abbrev pub Hears : {Watcher : Type 0} → Rules → ℕ → List ℕ → RelayKept → RelayKept → (Watcher → List Said → Type 0) → (watcher telling : Watcher) → Type 0
+abbrev pub Hears : {Watcher : Type 0} → Rules → ℕ → List ℕ → RelayKept → RelayKept → (Watcher → List Said → Type 0)
+    → (watcher telling : Watcher) → Type 0
 Hears rules index bytes old new told watcher telling =
     (start : Kept) (run : RelayRun) → IsRun rules start run → Holds rules run old
     → HasHeard rules start index bytes run new told watcher telling
 
 -- there was no memory for it all: what holds in part, and what was told so far
-abbrev pub HearsInPart : {Watcher : Type 0} → Rules → ℕ → List ℕ → RelayKept → (Watcher → List Said → Type 0) → (watcher telling : Watcher) → Type 0
+abbrev pub HearsInPart : {Watcher : Type 0} → Rules → ℕ → List ℕ → RelayKept → (Watcher → List Said → Type 0)
+    → (watcher telling : Watcher) → Type 0
 HearsInPart rules index bytes old told watcher telling =
     (start : Kept) (run : RelayRun) → IsRun rules start run → Holds rules run old
     → Stopped rules start (gave_run index bytes run) told watcher telling

@@ -1,6 +1,6 @@
 -- What one call leads to, in any run.
 use Rattle.std.specs.Prelude.{ℕ, ◌≡◌, ◌+◌, ◌-◌, ◌<◌, Bool, false, if◌then◌else◌, List, [], ◌∷◌, ◌++◌, length, map}
-use Rattle.std.specs.Prelude.{filter, get_or, slice_get, slice_set, Option, option_map, ⊤}
+use Rattle.std.specs.Prelude.{filter, get_or, slice_get, slice_set, ⊤}
 use Rattle.mav_frame.specs.Packet.{Packet}
 use Rattle.mav_sign.specs.declared.admission.Admit.{Admit}
 use Rattle.mav_sign.specs.Kept.{Kept}
@@ -23,8 +23,8 @@ numbers_of goes k (link ∷ links) =
 
 -- what a frame does that came in at the open link with that index, before it waits anywhere; a bit for each link to
 -- which it goes
-pub record IsTried {Watcher : Type 0} (rules : Rules) (index bits : ℕ) (packet : Packet) (before : RelayState) (links : LinksKept)
-    (told : Watcher → List Said → Type 0) (watcher telling : Watcher) : Type 0 where
+pub record IsTried {Watcher : Type 0} (rules : Rules) (index bits : ℕ) (packet : Packet) (before : RelayState)
+    (links : LinksKept) (told : Watcher → List Said → Type 0) (watcher telling : Watcher) : Type 0 where
   pub answer : Admit
   pub after : RelayState
   pub step : Hears rules (link_at before.links index).number packet answer before after
@@ -58,13 +58,15 @@ pub record Moved {Watcher : Type 0} (rules : Rules) (start : Kept) (run : RelayR
   pub course : now.course.told ≡ run.course.told ++ more
   pub tells_it : Tells told watcher telling more
 
-abbrev pub Moves : {Watcher : Type 0} → Rules → RelayKept → RelayKept → (Watcher → List Said → Type 0) → (watcher telling : Watcher) → Type 0
+abbrev pub Moves : {Watcher : Type 0} → Rules → RelayKept → RelayKept → (Watcher → List Said → Type 0)
+    → (watcher telling : Watcher) → Type 0
 Moves rules old new told watcher telling =
     (start : Kept) (run : RelayRun) → IsRun rules start run → HoldsSoFar rules run old
     → Moved rules start run new told watcher telling
 
 -- a run goes on with frames until there is no memory
-pub record Stopped {Watcher : Type 0} (rules : Rules) (start : Kept) (run : RelayRun) (told : Watcher → List Said → Type 0) (watcher telling : Watcher) : Type 0 where
+pub record Stopped {Watcher : Type 0} (rules : Rules) (start : Kept) (run : RelayRun)
+    (told : Watcher → List Said → Type 0) (watcher telling : Watcher) : Type 0 where
   pub now : RelayRun
   pub is_run : IsRun rules start now
   pub holds : HoldsInPart rules now
@@ -76,7 +78,8 @@ pub record Stopped {Watcher : Type 0} (rules : Rules) (start : Kept) (run : Rela
   pub course : now.course.told ≡ run.course.told ++ more
   pub tells_it : Tells told watcher telling more
 
-abbrev pub Stops : {Watcher : Type 0} → Rules → RelayKept → (Watcher → List Said → Type 0) → (watcher telling : Watcher) → Type 0
+abbrev pub Stops : {Watcher : Type 0} → Rules → RelayKept → (Watcher → List Said → Type 0)
+    → (watcher telling : Watcher) → Type 0
 Stops rules old told watcher telling =
     (start : Kept) (run : RelayRun) → IsRun rules start run → HoldsSoFar rules run old
     → Stopped rules start run told watcher telling

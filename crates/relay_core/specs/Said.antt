@@ -1,5 +1,5 @@
 -- What is said of a relay while it runs, in the order in which it happens.
-use Rattle.std.specs.Prelude.{ℕ, List, [], ◌∷◌, ◌++◌, map}
+use Rattle.std.specs.Prelude.{List, [], ◌∷◌, ◌++◌, map}
 use Rattle.relay_core.specs.declared.notes.Note.{Note}
 use Rattle.relay_core.specs.Flows.{Told}
 

@@ -42,8 +42,8 @@ refused_in (closes number ∷ events) = refused_in events
 refused_in (hears number packet answer ∷ events) = refused_in events
 
 -- a frame is judged: it is refused and told of, or would be admitted, which nobody is told yet
-pub record IsTested {Watcher : Type 0} (rules : Rules) (port : ℕ) (packet : Packet) (refused : Bool) (old new : LinksKept)
-    (told : Watcher → List Said → Type 0) (watcher telling : Watcher) : Type 0 where
+pub record IsTested {Watcher : Type 0} (rules : Rules) (port : ℕ) (packet : Packet) (refused : Bool)
+    (old new : LinksKept) (told : Watcher → List Said → Type 0) (watcher telling : Watcher) : Type 0 where
   pub answer : Admit
   pub made : HasRoom old.kept new.kept
   pub verdict : answer ≡ verdict_by rules.key (has_port rules.plain port) new.kept packet
@@ -53,8 +53,8 @@ pub record IsTested {Watcher : Type 0} (rules : Rules) (port : ℕ) (packet : Pa
 
 -- of a stranger's bytes a prefix was parsed and the rest is held; each frame in it was refused and told of, in
 -- order; no link has changed, nor the bytes of any
-pub record Judged {Watcher : Type 0} (rules : Rules) (start : Kept) (port : ℕ) (bytes : List ℕ) (run : RelayRun) (held : Held)
-    (new : RelayKept) (told : Watcher → List Said → Type 0) (watcher telling : Watcher) : Type 0 where
+pub record Judged {Watcher : Type 0} (rules : Rules) (start : Kept) (port : ℕ) (bytes : List ℕ) (run : RelayRun)
+    (held : Held) (new : RelayKept) (told : Watcher → List Said → Type 0) (watcher telling : Watcher) : Type 0 where
   pub found : List FrameEvent
   pub parsed : PortProgress rules port bytes found held
   pub fewer : length held.bytes ≤ length bytes
@@ -74,8 +74,8 @@ abbrev pub kept_with : LinksKept → List Held → List WaitingState → RelayKe
 kept_with links scanners queues = record { links = links; scanners = scanners; queues = queues }
 
 -- what was judged so far goes on
-abbrev pub JudgesOn : {Watcher : Type 0} → Rules → ℕ → (old new : LinksKept) → (held later : Held) → (Watcher → List Said → Type 0) → (watcher telling : Watcher)
-    → Type 0
+abbrev pub JudgesOn : {Watcher : Type 0} → Rules → ℕ → (old new : LinksKept) → (held later : Held)
+    → (Watcher → List Said → Type 0) → (watcher telling : Watcher) → Type 0
 JudgesOn {Watcher} rules port old new held later told watcher telling =
     (start : Kept) (bytes : List ℕ) (run : RelayRun) (scanners : List Held) (queues : List WaitingState)
     (first : Watcher) → Judged rules start port bytes run held (kept_with old scanners queues) told first watcher
@@ -104,25 +104,27 @@ Answers rules port kept bytes held (Some from) =
     × IsAdmissible rules port kept (first_packet held)
 Answers rules port kept bytes held None = IsResting held
 
-pub record HasJudged {Watcher : Type 0} (rules : Rules) (start : Kept) (port : ℕ) (bytes : List ℕ) (run : RelayRun) (new : RelayKept)
-    (told : Watcher → List Said → Type 0) (watcher telling : Watcher) (from : Option ℕ) : Type 0 where
+pub record HasJudged {Watcher : Type 0} (rules : Rules) (start : Kept) (port : ℕ) (bytes : List ℕ) (run : RelayRun)
+    (new : RelayKept) (told : Watcher → List Said → Type 0) (watcher telling : Watcher) (from : Option ℕ)
+    : Type 0 where
   pub held : Held
   pub judged : Judged rules start port bytes run held new told watcher telling
   pub answer : Answers rules port new.links.kept bytes held from
 
-abbrev pub Judges : {Watcher : Type 0} → Rules → ℕ → List ℕ → RelayKept → RelayKept → (Watcher → List Said → Type 0) → (watcher telling : Watcher) → Option ℕ
-    → Type 0
+abbrev pub Judges : {Watcher : Type 0} → Rules → ℕ → List ℕ → RelayKept → RelayKept → (Watcher → List Said → Type 0)
+    → (watcher telling : Watcher) → Option ℕ → Type 0
 Judges rules port bytes old new told watcher telling from =
     (start : Kept) (run : RelayRun) → RunIs rules start run old
     → HasJudged rules start port bytes run new told watcher telling from
 
 -- there was no memory for it all: what was judged so far
-pub record HasJudgedInPart {Watcher : Type 0} (rules : Rules) (start : Kept) (port : ℕ) (bytes : List ℕ) (run : RelayRun)
-    (new : RelayKept) (told : Watcher → List Said → Type 0) (watcher telling : Watcher) : Type 0 where
+pub record HasJudgedInPart {Watcher : Type 0} (rules : Rules) (start : Kept) (port : ℕ) (bytes : List ℕ)
+    (run : RelayRun) (new : RelayKept) (told : Watcher → List Said → Type 0) (watcher telling : Watcher) : Type 0 where
   pub held : Held
   pub judged : Judged rules start port bytes run held new told watcher telling
 
-abbrev pub JudgesInPart : {Watcher : Type 0} → Rules → ℕ → List ℕ → RelayKept → RelayKept → (Watcher → List Said → Type 0) → (watcher telling : Watcher) → Type 0
+abbrev pub JudgesInPart : {Watcher : Type 0} → Rules → ℕ → List ℕ → RelayKept → RelayKept
+    → (Watcher → List Said → Type 0) → (watcher telling : Watcher) → Type 0
 JudgesInPart rules port bytes old new told watcher telling =
     (start : Kept) (run : RelayRun) → RunIs rules start run old
     → HasJudgedInPart rules start port bytes run new told watcher telling

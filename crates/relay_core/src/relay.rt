@@ -1,6 +1,6 @@
 // The switch of a relay.
-ghost use Rattle.std.specs.Prelude.{◌≡◌, ◌+◌, ◌<◌, ◌≤◌, ◌^◌, ◌++◌, ◌∷◌, [], length, slice_get, Some, IfOk, IfSome, OnOk};
-ghost use Rattle.std.specs.Prelude.{OnErr, IsTrue};
+ghost use Rattle.std.specs.Prelude.{◌≡◌, ◌+◌, ◌<◌, ◌≤◌, ◌^◌, ◌++◌, ◌∷◌, [], length, slice_get, Some, IfOk};
+ghost use Rattle.std.specs.Prelude.{IfSome, OnOk, OnErr, IsTrue};
 ghost use Rattle.std.specs.List.{remove};
 ghost use Rattle.relay_queue.specs.Queues.{next_bytes};
 ghost use Rattle.relay_core.specs.Calls.{Closes, Hears, HearsInPart, IsNew, IsWhole, Opens, Takes};
@@ -133,7 +133,8 @@ impl Relay {
     ) -> Result<(), NoMemory>
         requires within { index < length self.old.links.links }
         requires short { length bytes.now ≤ 65536 }
-        ensures hears { OnOk result (Hears rules.now index bytes.now self.old self.new W.told watcher.old watcher.new) }
+        ensures hears { OnOk result (Hears rules.now index bytes.now self.old self.new W.told watcher.old
+            watcher.new) }
         ensures stops { OnErr result (HearsInPart rules.now index bytes.now self.old W.told watcher.old watcher.new) }
         ensures links { self.new.links.links ≡ self.old.links.links }
         ensures given { self.new.links.given ≡ self.old.links.given }
@@ -163,8 +164,10 @@ impl Relay {
         requires to { port ≤ rules.now.ports }
         requires ports { rules.now.ports ≤ 8 }
         requires short { length bytes.now ≤ 65536 }
-        ensures judges { IfOk result (Judges rules.now port bytes.now self.old self.new W.told watcher.old watcher.new) }
-        ensures stops { OnErr result (JudgesInPart rules.now port bytes.now self.old self.new W.told watcher.old watcher.new) }
+        ensures judges { IfOk result (Judges rules.now port bytes.now self.old self.new W.told watcher.old
+            watcher.new) }
+        ensures stops { OnErr result (JudgesInPart rules.now port bytes.now self.old self.new W.told watcher.old
+            watcher.new) }
         ensures links { self.new.links.links ≡ self.old.links.links }
         ensures within { IfOk result (λ place. IfSome place (λ from. from ≤ length bytes.now)) }
         ensures whole { IsWhole self.new }

@@ -1,21 +1,19 @@
 -- What each call leads to, from any run.
-use Rattle.std.proofs.Common.{◌≡◌, ◌≢◌, ◌∙◌, ◌<◌, ◌≤◌, ◌^◌, ℕ, ◌+◌, List, [], ◌∷◌, ◌++◌, length, map, slice_get, Option, Some, None, refl, sym, ap, subst, arith}
+use Rattle.std.proofs.Common.{◌≡◌, ◌≢◌, ◌∙◌, ◌≤◌, ◌^◌, ℕ, ◌+◌, List, [], ◌∷◌, ◌++◌, length, map, slice_get, Option, Some, None, refl, sym, ap, subst}
 use Rattle.std.specs.Prelude.{IfSome}
-use Rattle.std.specs.List.{flat_map}
 use Rattle.std.specs.Option.{option_map}
 use Rattle.std.proofs.lemmas.Grind.{flat_map-append}
 use Rattle.std.proofs.lemmas.List.{append-nil, map-append}
 use Rattle.mav_sign.specs.Kept.{Kept}
 use Rattle.mav_router.specs.Journal.{Rules}
-use Rattle.relay_hub.specs.Hubs.{HubState, Tape as HubTape, asks, blank, closes, gives, happens, opens, takes}
-use Rattle.relay_hub.specs.declared.news.HubNews.TheVariants.{Opened as HubOpened, Refused as HubRefused, Closed as HubClosed, Waits as HubWaits}
+use Rattle.relay_hub.specs.Hubs.{HubState, Tape as HubTape, blank, closes, gives, opens, takes}
 use Rattle.relay_hub.specs.declared.news.Why.{Why}
-use Rattle.relay_rules.specs.Steps.{Event, opens as opens_at, closes as closes_at}
-use Rattle.relay_rules.specs.States.{LinkState, link_at}
+use Rattle.relay_rules.specs.Steps.{opens as opens_at, closes as closes_at}
+use Rattle.relay_rules.specs.States.{link_at}
 use Rattle.relay_core.specs.declared.notes.Note.{Note}
 use Rattle.relay_core.specs.declared.notes.Note.TheVariants.{Opened, Closed, Gave, Took, Asked}
-use Rattle.relay_core.specs.Calls.{Hears, HearsInPart, IsWhole, Opens, RunIs, Takes}
-use Rattle.relay_core.specs.Moves.{closed_run, no_tape, opened_run, took_run}
+use Rattle.relay_core.specs.Calls.{Hears, HearsInPart, IsWhole, Opens, RunIs}
+use Rattle.relay_core.specs.Moves.{closed_run, opened_run, took_run}
 use Rattle.relay_core.specs.RelayRuns.{RelayKept, RelayRun, Tape}
 use Rattle.relay_core.specs.Said.{Notes, Said}
 use Rattle.relay_core.specs.Strangers.{Judges, JudgesInPart}
@@ -23,7 +21,7 @@ use Rattle.relay_core.proofs.Stopping.{in_part}
 use Rattle.relay_run.specs.declared.stops.Stop.{Stop}
 use Rattle.relay_run.specs.declared.stops.Stop.TheVariants.{NumbersSpent}
 use Rattle.relay_run.specs.Closing.{HasClosed}
-use Rattle.relay_run.specs.Rounds.{Agrees, Goes, GoesInPart, IsTold, Runs, RunsInPart, bytes_of}
+use Rattle.relay_run.specs.Rounds.{Agrees, Goes, GoesInPart, bytes_of}
 use Rattle.relay_run.specs.Saying.{Mark, marks_by, marks_noted, marks_of}
 use Rattle.relay_run.specs.Taking.{joins}
 use Rattle.relay_run.proofs.Agreeing.{agrees_closed, as_many, joined_tapes, agrees_gave, agrees_opened, agrees_took, gave_tapes, if_mapped, number_at, same_numbers}

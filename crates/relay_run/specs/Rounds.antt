@@ -1,5 +1,5 @@
 -- A relay over a hub: its history, the bytes of the hub's links, and what was told of it.
-use Rattle.std.specs.Prelude.{ℕ, ◌≡◌, ◌≤◌, ◌+◌, ◌^◌, List, ◌++◌, map, Option, IfSome}
+use Rattle.std.specs.Prelude.{◌≡◌, ◌≤◌, ◌+◌, ◌^◌, List, ◌++◌, map, Option, IfSome}
 use Rattle.mav_sign.specs.Kept.{Kept}
 use Rattle.mav_router.specs.Journal.{Rules}
 use Rattle.relay_rules.specs.States.{LinkState}

@@ -1,4 +1,3 @@
-use Rattle.std.proofs.Common.{◌≡◌, length}
 use Rattle.relay_run.specs.Rounds.{AreSeated, Goes}
 use Rattle.relay_run.proofs.following.follow.Given as goal
 

@@ -1,11 +1,11 @@
-use Rattle.std.proofs.Common.{◌≡◌, ◌∙◌, List, ℕ, Option, Some, map, refl, sym, subst, ap}
+use Rattle.std.proofs.Common.{◌∙◌, List, ℕ, Option, Some, map, refl, sym, subst, ap}
 use Rattle.std.specs.List.{remove}
 use Rattle.std.specs.Option.{option_map}
 use Rattle.std.proofs.lemmas.Result.{err_from_is_err_and}
 use Rattle.relay_hub.specs.Hubs.{HubState, blank, happens, opens}
 use Rattle.relay_hub.specs.Seats.{Seats, told_at}
 use Rattle.relay_hub.specs.declared.news.HubNews.{HubNews}
-use Rattle.relay_hub.specs.declared.news.HubNews.TheVariants.{Opened as HubOpened, Refused as HubRefused, Closed as HubClosed, Waits as HubWaits}
+use Rattle.relay_hub.specs.declared.news.HubNews.TheVariants.{Refused as HubRefused, Waits as HubWaits}
 use Rattle.relay_rules.specs.declared.links.OpenLink.{OpenLink}
 use Rattle.relay_core.specs.declared.notes.Note.TheVariants.{Refused, Waits}
 use Rattle.relay_run.specs.declared.stops.Stop.{Stop}

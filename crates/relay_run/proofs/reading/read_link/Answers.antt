@@ -1,8 +1,7 @@
-use Rattle.std.proofs.Common.{◌≡◌, ◌∙◌, ℕ, [], Option, take, sym, subst, ap}
+use Rattle.std.proofs.Common.{◌∙◌, ℕ, [], Option, take, sym, subst, ap}
 use Rattle.std.specs.Option.{option_map}
 use Rattle.std.proofs.lemmas.Result.{err_from_is_err_and}
 use Rattle.relay_hub.specs.Hubs.{HubState, gives}
-use Rattle.relay_run.specs.declared.stops.Stop.{Stop}
 use Rattle.relay_run.specs.declared.stops.Stop.TheVariants.{NoMemory}
 use Rattle.relay_run.specs.Rounds.{Goes, GoesInPart}
 use Rattle.relay_run.proofs.Agreeing.{gives_nothing}

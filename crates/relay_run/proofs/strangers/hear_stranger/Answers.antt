@@ -1,4 +1,4 @@
-use Rattle.std.proofs.Common.{◌≡◌, ◌∙◌, ℕ, Bool, true, false, List, Option, Some, None, take, drop, refl, sym, subst, ap}
+use Rattle.std.proofs.Common.{◌∙◌, ℕ, Bool, false, List, Option, Some, take, refl, sym, subst, ap}
 use Rattle.std.specs.Option.{option_map}
 use Rattle.std.proofs.lemmas.Result.{err_from_is_err_and}
 use Rattle.relay_hub.specs.Hubs.{HubState, adopts, asks}
@@ -47,7 +47,7 @@ returns-else-adopt-clause-goes g c =
     let told = g.W.Watcher.told in
     let judged = goes_asked rules told was c.note.new.self is hub (asks (Some came) buf) old new came.port came.count (take came.count buf) c.in_ok-from.field-0 (λ s. (refl, refl)) c.judge_stranger.ensures.links c.note.ensures c.in_ok-from.ensures.judges in
     let there = c.adopt.ensures.state ∙ (ap (λ (o : Option HubState). option_map (adopts c.adopt.result c.in-Some-2.from) o) c.in-Some.ensures.state
-        ∙ ap (λ (b : Bool). option_map (adopts b c.in-Some-2.from) asked) c.if-adopt.false) in
+    ∙ ap (λ (b : Bool). option_map (adopts b c.in-Some-2.from) asked) c.if-adopt.false) in
     subst (λ (o : Option HubState). Goes rules told was is hub o old new) (sym there)
     (λ start first r. goes_same rules told is asked (adopts false c.in-Some-2.from) new (λ s. (refl, refl)) start first (judged start first r))
 
@@ -67,8 +67,8 @@ returns-in_ok-take_in-clause-goes g c =
     let told = g.W.Watcher.told in
     let judged = goes_asked rules told was c.note.new.self mid hub (asks (Some came) buf) old middle came.port came.count (take came.count buf) c.in_ok-from.field-0 (λ s. (refl, refl)) c.judge_stranger.ensures.links c.note.ensures c.in_ok-from.ensures.judges in
     let there = c.adopt.ensures.state ∙ (ap (λ (o : Option HubState). option_map (adopts c.adopt.result from) o) c.in-Some.ensures.state
-        ∙ (ap (λ (b : Bool). option_map (adopts b from) asked) c.if-adopt.true ∙ (adopted_as hub came buf from
-        ∙ ap (λ (l : List ℕ). option_map (joins came.port l) asked) (sym (to_end from (take came.count buf)))))) in
+    ∙ (ap (λ (b : Bool). option_map (adopts b from) asked) c.if-adopt.true ∙ (adopted_as hub came buf from
+    ∙ ap (λ (l : List ℕ). option_map (joins came.port l) asked) (sym (to_end from (take came.count buf)))))) in
     subst (λ (o : Option HubState). Goes rules told was is hub o old c.take_in.new.relay) (sym there)
     (λ start first r. c.in_ok-take_in.ensures.takes asked start first (judged start first r))
 
@@ -90,8 +90,8 @@ returns-in_err-take_in-clause-stops g c =
     let stop = c.in_err-take_in.field-0.0 in
     let judged = goes_asked rules told was c.note.new.self mid hub (asks (Some came) buf) old middle came.port came.count (take came.count buf) c.in_ok-from.field-0 (λ s. (refl, refl)) c.judge_stranger.ensures.links c.note.ensures c.in_ok-from.ensures.judges in
     let there = c.adopt.ensures.state ∙ (ap (λ (o : Option HubState). option_map (adopts c.adopt.result from) o) c.in-Some.ensures.state
-        ∙ (ap (λ (b : Bool). option_map (adopts b from) asked) c.if-adopt.true ∙ (adopted_as hub came buf from
-        ∙ ap (λ (l : List ℕ). option_map (joins came.port l) asked) (sym (to_end from (take came.count buf)))))) in
+    ∙ (ap (λ (b : Bool). option_map (adopts b from) asked) c.if-adopt.true ∙ (adopted_as hub came buf from
+    ∙ ap (λ (l : List ℕ). option_map (joins came.port l) asked) (sym (to_end from (take came.count buf)))))) in
     rw p.1 (subst (λ (s : Stop). GoesInPart s rules told was is hub (g.H.Hub.state c.adopt.new.self) old) (sym p.2)
     (subst (λ (o : Option HubState). GoesInPart stop rules told was is hub o old) (sym there)
     (λ start first r. c.in_err-take_in.ensures.stops asked start first (judged start first r))))

@@ -1,7 +1,6 @@
-use Rattle.std.proofs.Common.{◌≡◌, ◌∙◌, ℕ, List, [], Option, length, refl, sym, subst, ap}
+use Rattle.std.proofs.Common.{ℕ, [], length, refl, sym, subst}
 use Rattle.std.specs.Option.{option_map}
 use Rattle.std.proofs.lemmas.Result.{err_from_is_err_and}
-use Rattle.relay_hub.specs.Hubs.{HubState}
 use Rattle.relay_core.specs.Calls.{Hears, HearsInPart}
 use Rattle.relay_run.specs.declared.stops.Stop.{Stop}
 use Rattle.relay_run.specs.declared.stops.Stop.TheVariants.{NoMemory}

@@ -1,4 +1,4 @@
-use Rattle.std.proofs.Common.{◌≡◌, ◌∙◌, ℕ, List, [], Option, take, get_or, sym, subst, ap, arith}
+use Rattle.std.proofs.Common.{◌∙◌, ℕ, List, [], Option, take, get_or, sym, subst, ap, arith}
 use Rattle.std.specs.Option.{option_map}
 use Rattle.std.proofs.lemmas.Option.{slice_get-get_or}
 use Rattle.relay_hub.specs.Hubs.{HubState, takes}
